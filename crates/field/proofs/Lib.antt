@@ -1,0 +1,11 @@
+pub mod Congruence
+pub mod Euclid
+pub mod Primality
+pub mod Roots
+pub mod Monic
+pub mod Values
+pub mod Fermat
+pub mod Pigeonhole
+pub mod Truncated
+pub mod Inversion
+pub mod Powers
