@@ -1,0 +1,14 @@
+pub mod Sizes
+pub mod Division
+pub mod Equations
+pub mod Products
+pub mod Complete
+pub mod Parts
+pub mod Trial
+pub mod Reading
+pub mod Decide
+pub mod Start
+pub mod PowerSteps
+pub mod EquationSteps
+pub mod Evaluation
+pub mod Candidate

@@ -1,0 +1,4 @@
+pub mod Explanation
+pub mod AnyPoints
+pub mod Promise
+pub mod Sharp

@@ -1,0 +1,10 @@
+pub mod Bridges
+pub mod Points
+pub mod Pointwise
+pub mod Kept
+pub mod Right
+pub mod Filled
+pub mod Rows
+pub mod Keeping
+pub mod Worked
+pub mod Words

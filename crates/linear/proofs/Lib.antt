@@ -1,0 +1,12 @@
+pub mod Places
+pub mod Sums
+pub mod Operations
+pub mod Matrices
+pub mod Steps
+pub mod Columns
+pub mod Exchanges
+pub mod Echelons
+pub mod Backwards
+pub mod Equations
+pub mod Verdicts
+pub mod Laws
