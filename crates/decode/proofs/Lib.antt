@@ -12,3 +12,7 @@ pub mod PowerSteps
 pub mod EquationSteps
 pub mod Evaluation
 pub mod Candidate
+pub mod Horner
+pub mod Listing
+pub mod Whole
+pub mod Steps

@@ -4,3 +4,7 @@ pub mod Division
 pub mod Trial
 pub mod Test
 pub mod Values
+pub mod Numbers
+pub mod Polynomials
+pub mod Steps
+pub mod Decoding

@@ -3,6 +3,8 @@ ghost use Prim.Native.Nat.{_≤_};
 ghost use lib.ListN.{length};
 ghost use mathlib.Core.Path.{_≡_};
 
+mod push;
+
 #[derive(Clone, Copy)]
 pub(crate) struct Numbers {
     pub(crate) at: [u64; 64],

@@ -46,7 +46,7 @@ up-to-date d =
     record {
       letter-is = ap (λ t. record { many = length (items-of (d .list)); at = t }) (d .right);
       in-order = d .list .sorted;
-      small = d .below
+      small = d .below;
     }
 
 -- a desk one step on, by its parts
@@ -57,7 +57,7 @@ pub came-after : (p m n : ℕ) (ns vs ns′ vs′ : List ℕ)
     → ns′ ≡ put n ns
     → vs′ ≡ times-each p (points p m) n vs
     → _≡_ {A = Desk} (record { list = ns′; letter-now = record { many = length ns′; at = vs′ } })
-        (step p m (record { list = ns; letter-now = record { many = length ns; at = vs } }) (comes n))
+    (step p m (record { list = ns; letter-now = record { many = length ns; at = vs } }) (comes n))
 unfolding step
 came-after p m n ns vs ns′ vs′ rises small new put-in made =
     ap (λ t. record { list = t; letter-now = record { many = length t; at = vs′ } }) put-in
@@ -135,9 +135,9 @@ went-values p m n ns vs ns′ vs′ prime room below there right taken made =
     made
     ∙ ap (undo-each p (points p m) n) right
     ∙ sym
-        (∥∥₁-elim prime (List·isSet ℕ-set (values p (points p m) (without n ns)) (undo-each p (points p m) n (values p (points p m) ns)))
-          (λ (pr : Prime p).
-            values-without p n (points p m) ns pr there (omega arith) (points-below p m (omega arith)) (points-above p m n small)))
+    (∥∥₁-elim prime (List·isSet ℕ-set (values p (points p m) (without n ns)) (undo-each p (points p m) n (values p (points p m) ns)))
+    (λ (pr : Prime p).
+    values-without p n (points p m) ns pr there (omega arith) (points-below p m (omega arith)) (points-above p m n small)))
     ∙ ap (values p (points p m)) (sym taken)
 
 pub went-after : (p m n : ℕ) (ns vs ns′ vs′ : List ℕ)
@@ -145,7 +145,7 @@ pub went-after : (p m n : ℕ) (ns vs ns′ vs′ : List ℕ)
     → ns′ ≡ without n ns
     → vs′ ≡ undo-each p (points p m) n vs
     → _≡_ {A = Desk} (record { list = ns′; letter-now = record { many = length ns′; at = vs′ } })
-        (step p m (record { list = ns; letter-now = record { many = length ns; at = vs } }) (goes n))
+    (step p m (record { list = ns; letter-now = record { many = length ns; at = vs } }) (goes n))
 unfolding step
 went-after p m n ns vs ns′ vs′ there taken made =
     ap (λ t. record { list = t; letter-now = record { many = length t; at = vs′ } }) taken
@@ -179,7 +179,7 @@ pub went-off : (p m n x : ℕ) (ns zs : List ℕ)
     → ⊥
 went-off p m n x ns zs below there spots residue m′ =
     points-above p m n (has-below (p - m) n ns there below)
-      (subst (λ (t : List ℕ). Among n t) spots (subst (λ (t : ℕ). Among t zs) residue m′))
+    (subst (λ (t : List ℕ). Among n t) spots (subst (λ (t : ℕ). Among t zs) residue m′))
 
 -- a beginning of the row that is kept is the row of a shorter letter
 pub beginning-letter : (p m k : ℕ) (ns : List ℕ) → m ≤ k → take m (values p (points p k) ns) ≡ values p (points p m) ns

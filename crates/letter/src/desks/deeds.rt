@@ -35,7 +35,12 @@ impl<const P: u64> Desk<P> {
         let nodes = Row::points(modulus, m as usize);
         let kept = Row::ones(modulus, m as usize);
         let list = SortedList::new(heap);
-        Ok(Desk { modulus, nodes, kept, list })
+        Ok(Desk {
+            modulus,
+            nodes,
+            kept,
+            list,
+        })
     }
 
     // How many values the letter that is kept has.

@@ -8,5 +8,5 @@ pub returns : need.returns
 unfolding letter-text
 returns c =
     made-weaker (c .push-spaced .result) _ _
-      (λ s e. e ∙ ap (λ t. t ++ spaced (c .args .values .now)) (c .in-Continue-line .ensures tt .made))
-      (c .push-spaced .ensures)
+    (λ s e. e ∙ ap (λ t. t ++ spaced (c .args .values .now)) (c .in-Continue-line .ensures tt .made))
+    (c .push-spaced .ensures)

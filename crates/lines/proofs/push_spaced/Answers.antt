@@ -18,4 +18,4 @@ loop-n-again c = {! c .in-Continue-push-str !}
 pub returns : need.returns
 returns c =
     c .loop-n .inv
-      ∙ ap (λ t. _ ++ spaced t) (take-all (c .loop-n .n-index) (c .args .numbers .now) (c .loop-n-test .left))
+    ∙ ap (λ t. _ ++ spaced t) (take-all (c .loop-n .n-index) (c .args .numbers .now) (c .loop-n-test .left))

@@ -11,8 +11,8 @@ pub returns-then-number-eq0 : need.returns-then-number-eq0
 unfolding refusal-text
 returns-then-number-eq0 c =
     made-weaker (c .from-str .result) _ _
-      (λ s e. e ∙ sym (cond-true _ _ _ (eq-eqb (number (c .args .refusal)) 0 (sym (c .number .ensures) ∙ c .if-number-eq0 .taken))))
-      (c .from-str .ensures .made)
+    (λ s e. e ∙ sym (cond-true _ _ _ (eq-eqb (number (c .args .refusal)) 0 (sym (c .number .ensures) ∙ c .if-number-eq0 .taken))))
+    (c .from-str .ensures .made)
 
 pub returns : need.returns
 unfolding refusal-text refused-text

@@ -16,9 +16,10 @@ returns g c =
     let self = c .args .self .now in
     let k = self .nodes .len in
     let ns = items-of (self .list) in
-    let short : c .args .m ≤ self .nodes .len = omega (arith, c .if-m-len .left, c .len .ensures) in
-    (short,
-     ap (λ t. record { many = t; at = numbers (c .new .result .values) }) (c .new .ensures .0 ∙ c .len-2 .ensures)
-       ∙ ap (λ t. record { many = length ns; at = numbers t }) (c .new .ensures .1)
-       ∙ ap (λ t. record { many = length ns; at = t })
-           (c .beginning-values .ensures .numbers ∙ ap (take (c .args .m)) (self .right) ∙ beginning-letter (g .P) (c .args .m) k ns short))
+    let short : c .args .m ≤ self .nodes .len = omega (arith, c .if-m-len .left, c .len .ensures) in (
+      short,
+      ap (λ t. record { many = t; at = numbers (c .new .result .values) }) (c .new .ensures .0 ∙ c .len-2 .ensures)
+          ∙ ap (λ t. record { many = length ns; at = numbers t }) (c .new .ensures .1)
+          ∙ ap (λ t. record { many = length ns; at = t })
+          (c .beginning-values .ensures .numbers ∙ ap (take (c .args .m)) (self .right) ∙ beginning-letter (g .P) (c .args .m) k ns short),
+    )

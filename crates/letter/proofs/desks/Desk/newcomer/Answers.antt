@@ -8,5 +8,5 @@ returns g c =
     record {
       small = omega (arith, c .if-n-m .left, c .len-m .ensures);
       new = sym (c .if-contains .ensures tt);
-      residue = c .new .ensures ∙ mod-eq-of-lt (omega (arith, c .if-n-m .left))
+      residue = c .new .ensures ∙ mod-eq-of-lt (omega (arith, c .if-n-m .left));
     }

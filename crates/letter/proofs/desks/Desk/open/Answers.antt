@@ -14,15 +14,24 @@ pub ghost-result : need.ghost-result
 ghost-result g c =
     let m = c .args .m in
     let len = c .points-nodes .ensures .len in
-    let none = c .new-list .ensures in
-    (omega arith,
-     (c .points-nodes .ensures .numbers ∙ ap (points (g .P)) (sym len),
-      (c .ones-kept .ensures .numbers (points (g .P) m) (length-points (g .P) m)
-         ∙ ap (λ t. values (g .P) (points (g .P) t) []) (sym len)
-         ∙ ap (values (g .P) (points (g .P) (c .points-nodes .result .len))) (sym none),
-       (c .ones-kept .ensures .len ∙ sym len,
-        (empty-below _ _ none,
-         (empty-few _ none, tt))))))
+    let none = c .new-list .ensures in (
+      omega arith,
+      (
+        c .points-nodes .ensures .numbers ∙ ap (points (g .P)) (sym len),
+        (
+          c .ones-kept .ensures .numbers (points (g .P) m) (length-points (g .P) m)
+              ∙ ap (λ t. values (g .P) (points (g .P) t) []) (sym len)
+              ∙ ap (values (g .P) (points (g .P) (c .points-nodes .result .len))) (sym none),
+          (
+            c .ones-kept .ensures .len ∙ sym len,
+            (
+              empty-below _ _ none,
+              (empty-few _ none, tt),
+            ),
+          ),
+        ),
+      ),
+    )
 
 pub returns : need.returns
 unfolding desk-of
@@ -32,6 +41,6 @@ returns g c =
       room = omega arith;
       size = c .points-nodes .ensures .len;
       empty =
-        bare-by (g .P) (c .args .m) _ _ (c .new-list .ensures)
-          (c .ones-kept .ensures .numbers (points (g .P) (c .args .m)) (length-points (g .P) (c .args .m)))
+          bare-by (g .P) (c .args .m) _ _ (c .new-list .ensures)
+          (c .ones-kept .ensures .numbers (points (g .P) (c .args .m)) (length-points (g .P) (c .args .m)));
     }
