@@ -16,3 +16,5 @@ pub mod Horner
 pub mod Listing
 pub mod Whole
 pub mod Steps
+pub mod Rows
+pub mod Answer

@@ -8,3 +8,4 @@ pub mod Numbers
 pub mod Polynomials
 pub mod Steps
 pub mod Decoding
+pub mod Entry

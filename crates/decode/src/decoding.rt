@@ -21,7 +21,13 @@ use crate::polynomial::Polynomial;
 use crate::roots::find_roots;
 
 // The only numbers that can explain the letter, from the solution of the equations; none where there is no solution.
-fn candidate<const P: u64>(sides: Sides<P>, many: u64, here: &[u64], sizes: Sizes, d: u64) -> Option<Difference>
+fn candidate<const P: u64>(
+    sides: Sides<P>,
+    many: u64,
+    here: &[u64],
+    sizes: Sizes,
+    d: u64,
+) -> Option<Difference>
     requires beside { ⌜ Beside d sides (now here) ⌝ }
     requires sizes { ⌜ Fitting many (length (now here)) d sizes ⌝ }
     ensures { λ r. ⌜ Cases r (Too-many P (sides .entry .nodes .len) d (record { many = many; at = numbers (sides .entry .sent) }) (now (here .entry))) (λ f. Only P (sides .entry .nodes .len) d (record { many = many; at = numbers (sides .entry .sent) }) (now (here .entry)) (listed (f .gone)) (listed (f .come))) ⌝ }
@@ -37,7 +43,12 @@ fn candidate<const P: u64>(sides: Sides<P>, many: u64, here: &[u64], sizes: Size
 }
 
 // What differs, if it is at most d numbers: they explain the letter beside the list here, and nothing else does.
-pub(crate) fn difference<const P: u64>(sides: Sides<P>, many: u64, here: &[u64], d: u64) -> Option<Difference>
+pub(crate) fn difference<const P: u64>(
+    sides: Sides<P>,
+    many: u64,
+    here: &[u64],
+    d: u64,
+) -> Option<Difference>
     requires { ⌜ Beside d sides (now here) ⌝ }
     ensures { λ r. ⌜ Cases r (Too-many P (sides .entry .nodes .len) d (record { many = many; at = numbers (sides .entry .sent) }) (now (here .entry))) (λ f. Found P (sides .entry .nodes .len) d (record { many = many; at = numbers (sides .entry .sent) }) (now (here .entry)) (listed (f .gone)) (listed (f .come))) ⌝ }
 {

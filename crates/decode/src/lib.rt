@@ -3,8 +3,13 @@ mod build;
 mod check;
 mod decoding;
 mod degrees;
+pub mod entry;
 mod evaluate;
 mod numbers;
 mod polynomial;
 mod roots;
 mod values;
+
+pub use entry::Reply;
+pub use entry::read_letter;
+pub use entry::read_modulo;

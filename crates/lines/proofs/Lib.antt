@@ -1,1 +1,2 @@
 pub mod Spaced
+pub mod Told

@@ -1,7 +1,7 @@
 -- One number more at the end of a line.
-use mathlib.Core.Path.{_≡_, refl, sym, ap, _∙_}
+use mathlib.Core.Path.{_≡_, sym, ap, _∙_}
 use mathlib.Core.List.{List, [], _∷_, _++_, append-assoc}
-use Prim.Native.Nat.{ℕ, _+_, _<_, _≤_}
+use Prim.Native.Nat.{ℕ, _+_, _<_}
 use lib.Chars.{codes}
 use lib.ListN.{length, getD, take}
 use Rattle.std.proofs.shelf.Lists.{append-nil, take-more}
@@ -15,9 +15,8 @@ spaced-push (k ∷ ns) n =
     ap (λ t. codes " " ++ (decimal k ++ t)) (spaced-push ns n)
     ∙ ap (λ t. codes " " ++ t) (sym (append-assoc (decimal k) (spaced ns) (codes " " ++ decimal n)))
 
-pub spaced-more : (line : List ℕ) (ns : List ℕ) (i : ℕ) → i < length ns →
-    ((line ++ spaced (take i ns)) ++ codes " ") ++ decimal (getD ns i 0) ≡ line ++ spaced (take (i + 1) ns)
+pub spaced-more : (line ns : List ℕ) (i : ℕ) → i < length ns →
+    (line ++ spaced (take i ns)) ++ (codes " " ++ decimal (getD ns i 0)) ≡ line ++ spaced (take (i + 1) ns)
 spaced-more line ns i inside =
-    append-assoc (line ++ spaced (take i ns)) (codes " ") (decimal (getD ns i 0))
-    ∙ append-assoc line (spaced (take i ns)) (codes " " ++ decimal (getD ns i 0))
+    append-assoc line (spaced (take i ns)) (codes " " ++ decimal (getD ns i 0))
     ∙ ap (λ t. line ++ t) (sym (spaced-push (take i ns) (getD ns i 0)) ∙ ap spaced (sym (take-more ns i 0 inside)))

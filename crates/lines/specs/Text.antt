@@ -2,7 +2,10 @@
 --
 --   spaced ns            each number after a space: " 60 77 96"
 --   letter-text n vs     a letter's count and its values: "2: 60 77 96"
---   refusal-text e       "refused 5 at 9", or "out of memory"
+--   refused-text k i     a refusal's number and its place: "refused 5 at 9"
+--   refusal-text e       the same of a refusal, or "out of memory"
+--   malformed-text i     a place of an input: "malformed at 7"
+--   difference-text g c  what is gone and what has come: "gone 5 come 3 31"
 use mathlib.Core.List.{List, [], _∷_, _++_}
 use Prim.Native.Nat.{ℕ}
 use mathlib.Core.Bool.{cond}
@@ -24,3 +27,9 @@ refused-text k i = codes "refused " ++ (decimal k ++ (codes " at " ++ decimal i)
 
 unfoldable pub refusal-text : Refusal → List ℕ
 refusal-text e = cond (eqb (number e) 0) (codes "out of memory") (refused-text (number e) (place e))
+
+unfoldable pub malformed-text : ℕ → List ℕ
+malformed-text i = codes "malformed at " ++ decimal i
+
+unfoldable pub difference-text : List ℕ → List ℕ → List ℕ
+difference-text gone come = ((codes "gone" ++ spaced gone) ++ codes " come") ++ spaced come

@@ -29,11 +29,10 @@ impl<const P: u64> Desk<P> {
     pub fn open(modulus: Modulus<P>, m: u64, heap: Global) -> Result<Desk<P>, Refusal>
         ensures { λ r. ⌜ Cases r (Opened P m) (NotOpened P m) ⌝ }
     {
-        if m > 64 || m >= P {
+        let Some(nodes) = Row::points_for(modulus, m) else {
             return Err(Refusal::Letter(0));
-        }
-        let nodes = Row::points(modulus, m as usize);
-        let kept = Row::ones(modulus, m as usize);
+        };
+        let kept = Row::ones(modulus, nodes.len());
         let list = SortedList::new(heap);
         Ok(Desk {
             modulus,
@@ -41,6 +40,11 @@ impl<const P: u64> Desk<P> {
             kept,
             list,
         })
+    }
+
+    // The modulus.
+    pub fn modulus(&self) -> Modulus<P> {
+        self.modulus
     }
 
     // How many values the letter that is kept has.

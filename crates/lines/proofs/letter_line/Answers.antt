@@ -1,4 +1,4 @@
-use mathlib.Core.Path.{ap, sym, _∙_}
+use mathlib.Core.Path.{ap, _∙_}
 use mathlib.Core.List.{_++_}
 use Rattle.std.proofs.shelf.Results.{made-weaker}
 use Rattle.lines.specs.Text.{letter-text, spaced}

@@ -23,25 +23,42 @@ is-found-requires g c κs =
     let b = c .pre in
     let only = c .in-Some-candidate .ensures tt in
     let gone-is = part-listed (c .in-Some-candidate .found .gone) in
-    let come-is = part-listed (c .in-Some-candidate .found .come) in
-    (lit< tt,
-     (b .spots,
-      (b .sent,
-       (b .size,
-        (b .own,
-         (b .rises,
-          (ap rising gone-is ∙ only .gone-passed .rises,
-           (ap (all-below (g .P - c .args .sides .nodes .len)) gone-is ∙ only .gone-passed .below,
-            (ap rising come-is ∙ only .come-passed .rises,
-             ap (all-below (g .P - c .args .sides .nodes .len)) come-is ∙ only .come-passed .below)))))))))
+    let come-is = part-listed (c .in-Some-candidate .found .come) in (
+      lit< tt,
+      (
+        b .spots,
+        (
+          b .sent,
+          (
+            b .size,
+            (
+              b .own,
+              (
+                b .rises,
+                (
+                  ap rising gone-is ∙ only .gone-passed .rises,
+                  (
+                    ap (all-below (g .P - c .args .sides .nodes .len)) gone-is ∙ only .gone-passed .below,
+                    (
+                      ap rising come-is ∙ only .come-passed .rises,
+                      ap (all-below (g .P - c .args .sides .nodes .len)) come-is ∙ only .come-passed .below,
+                    ),
+                  ),
+                ),
+              ),
+            ),
+          ),
+        ),
+      ),
+    )
 
 pub returns-then-is-found : need.returns-then-is-found
 returns-then-is-found g c =
     told-found (g .P) (c .args .sides .nodes .len) (c .args .d) _ (c .args .here .now) _ _ _ _
-      (part-listed (c .in-Some-candidate .found .gone)) (part-listed (c .in-Some-candidate .found .come)) (c .if-is-found .ensures tt)
+    (part-listed (c .in-Some-candidate .found .gone)) (part-listed (c .in-Some-candidate .found .come)) (c .if-is-found .ensures tt)
 
 pub returns-else-is-found : need.returns-else-is-found
 returns-else-is-found g c =
     told-more (g .P) (c .args .sides .nodes .len) (c .args .d) _ (c .args .here .now) _ _ _ _
-      (part-listed (c .in-Some-candidate .found .gone)) (part-listed (c .in-Some-candidate .found .come)) (c .in-Some-candidate .ensures tt .only)
-      (c .if-is-found .ensures tt)
+    (part-listed (c .in-Some-candidate .found .gone)) (part-listed (c .in-Some-candidate .found .come)) (c .in-Some-candidate .ensures tt .only)
+    (c .if-is-found .ensures tt)
