@@ -6,6 +6,7 @@
 --   Due p note here out d e   the refusal e is the first that applies
 --   These-say ..           the numbers gone and come that are told: they explain the letter, and nothing else does
 --   Read-says ..           the answer in full; a refusal leaves the row as it was
+--   Sound-beside, Due-beside, Beside-says   the same beside a desk's own list
 use mathlib.Core.Path.{_≡_}
 use mathlib.Core.List.{List, _++_}
 use mathlib.Core.Logic.{_⊎_}
@@ -48,18 +49,39 @@ Due p note here out d e =
     ⊎ (Told 4 (length out) e
     × (LetterSound p note × ListSound (p - getD note 0 0) here × (d ≤ getD note 0 0) × (length out < d)))))
 
-pub record These-say (p : ℕ) (note here out : List ℕ) (d went came : ℕ) (out₁ : List ℕ) : Type 0 where
+pub record These-say (p : ℕ) (note list out : List ℕ) (d went came : ℕ) (out₁ : List ℕ) : Type 0 where
   pub gone : List ℕ
   pub come : List ℕ
   pub gone-count : went ≡ length gone
   pub come-count : came ≡ length come
-  pub found : Found p (getD note 0 0) d (letter-in note) (list-in here) gone come
-  pub alone : (g c : List ℕ) → Found p (getD note 0 0) d (letter-in note) (list-in here) g c → (g ≡ gone) × (c ≡ come)
+  pub found : Found p (getD note 0 0) d (letter-in note) list gone come
+  pub alone : (g c : List ℕ) → Found p (getD note 0 0) d (letter-in note) list g c → (g ≡ gone) × (c ≡ come)
   pub row : out₁ ≡ gone ++ (come ++ drop (length gone + length come) out)
 
 abbrev pub Read-says : ℕ → (note here out : List ℕ) (d : ℕ) → Reply → List ℕ → Type 0
 Read-says p note here out d (These went came) out₁ =
-    Sound p note here out d × These-say p note here out d went came out₁
+    Sound p note here out d × These-say p note (list-in here) out d went came out₁
 Read-says p note here out d More out₁ =
     Sound p note here out d × (Too-many p (getD note 0 0) d (letter-in note) (list-in here) × (out₁ ≡ out))
 Read-says p note here out d (Refused e) out₁ = (out₁ ≡ out) × Due p note here out d e
+
+-- the same beside a desk that keeps k values of its list: a letter of more values is told as a letter at fault, at 0
+pub record Sound-beside (p : ℕ) (note : List ℕ) (k : ℕ) (out : List ℕ) (d : ℕ) : Type 0 where
+  pub letter : LetterSound p note
+  pub kept : getD note 0 0 ≤ k
+  pub allowed : d ≤ getD note 0 0
+  pub room : d ≤ length out
+
+unfoldable pub Due-beside : ℕ → (note : List ℕ) (k : ℕ) (out : List ℕ) (d : ℕ) → Refusal → Type 0
+Due-beside p note k out d e =
+    ((number e ≡ 1) × LetterFault p note (place e))
+    ⊎ ((Told 1 0 e × (LetterSound p note × (k < getD note 0 0)))
+    ⊎ ((Told 3 d e × (LetterSound p note × (getD note 0 0 ≤ k) × (getD note 0 0 < d)))
+    ⊎ (Told 4 (length out) e × (LetterSound p note × (getD note 0 0 ≤ k) × (d ≤ getD note 0 0) × (length out < d)))))
+
+abbrev pub Beside-says : ℕ → (note list : List ℕ) (k : ℕ) (out : List ℕ) (d : ℕ) → Reply → List ℕ → Type 0
+Beside-says p note list k out d (These went came) out₁ =
+    Sound-beside p note k out d × These-say p note list out d went came out₁
+Beside-says p note list k out d More out₁ =
+    Sound-beside p note k out d × (Too-many p (getD note 0 0) d (letter-in note) list × (out₁ ≡ out))
+Beside-says p note list k out d (Refused e) out₁ = (out₁ ≡ out) × Due-beside p note k out d e

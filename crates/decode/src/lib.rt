@@ -11,5 +11,6 @@ mod roots;
 mod values;
 
 pub use entry::Reply;
+pub use entry::read_beside;
 pub use entry::read_letter;
 pub use entry::read_modulo;
