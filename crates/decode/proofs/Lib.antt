@@ -18,3 +18,4 @@ pub mod Whole
 pub mod Steps
 pub mod Rows
 pub mod Answer
+pub mod Worked

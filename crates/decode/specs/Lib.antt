@@ -9,3 +9,4 @@ pub mod Polynomials
 pub mod Steps
 pub mod Decoding
 pub mod Entry
+pub mod Worked

@@ -8,6 +8,7 @@ mod evaluate;
 mod numbers;
 mod polynomial;
 mod roots;
+pub mod theorems;
 mod values;
 
 pub use entry::Reply;
