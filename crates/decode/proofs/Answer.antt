@@ -53,11 +53,12 @@ alone-found : (p m d : ℕ) (l : Letter) (list gone come : List ℕ)
     → (g ≡ gone) × (c ≡ come)
 alone-found p m d l list gone come prime fewer allowed below rises told g c other =
     let both = λ (pr : Prime p).
-      one-explanation p m l list g c gone come pr fewer below rises
-        (found-explains p m d l list g c other) (found-explains p m d l list gone come told)
-        (omega (arith, found-few p m d l list g c other, found-few p m d l list gone come told)) in
-    (∥∥₁-elim prime (List·isSet ℕ-set g gone) (λ (pr : Prime p). both pr .0),
-     ∥∥₁-elim prime (List·isSet ℕ-set c come) (λ (pr : Prime p). both pr .1))
+    one-explanation p m l list g c gone come pr fewer below rises
+    (found-explains p m d l list g c other) (found-explains p m d l list gone come told)
+    (omega (arith, found-few p m d l list g c other, found-few p m d l list gone come told)) in (
+      ∥∥₁-elim prime (List·isSet ℕ-set g gone) (λ (pr : Prime p). both pr .0),
+      ∥∥₁-elim prime (List·isSet ℕ-set c come) (λ (pr : Prime p). both pr .1),
+    )
 
 these-say : (p d : ℕ) (note list out out₁ : List ℕ) (f : Difference)
     → ∥ Prime p ∥₁
@@ -76,11 +77,11 @@ these-say p d note list out out₁ f prime fewer allowed below rises answered wr
       come-count = sym (length-listed (f .come));
       found = answered;
       alone =
-        alone-found p (getD note 0 0) d (letter-in note) list (listed (f .gone)) (listed (f .come)) prime fewer allowed below rises answered;
+          alone-found p (getD note 0 0) d (letter-in note) list (listed (f .gone)) (listed (f .come)) prime fewer allowed below rises answered;
       row =
-        written
-        ∙ ap (λ t. listed (f .gone) ++ (listed (f .come) ++ drop (t + f .come .len) out)) (sym (length-listed (f .gone)))
-        ∙ ap (λ t. listed (f .gone) ++ (listed (f .come) ++ drop (length (listed (f .gone)) + t) out)) (sym (length-listed (f .come)));
+          written
+          ∙ ap (λ t. listed (f .gone) ++ (listed (f .come) ++ drop (t + f .come .len) out)) (sym (length-listed (f .gone)))
+          ∙ ap (λ t. listed (f .gone) ++ (listed (f .come) ++ drop (length (listed (f .gone)) + t) out)) (sym (length-listed (f .come)));
     }
 
 pub reads : (p d : ℕ) (note here out out₁ : List ℕ) (o : Option Difference) (r : Reply)
@@ -92,9 +93,10 @@ pub reads : (p d : ℕ) (note here out out₁ : List ℕ) (o : Option Difference
 reads p d note here out out₁ None r prime sound answered told =
     subst (λ (t : Reply). Read-says p note here out d t out₁) (sym (told .0)) (sound, (answered, told .1))
 reads p d note here out out₁ (Some f) r prime sound answered told =
-    subst (λ (t : Reply). Read-says p note here out d t out₁) (sym (told .0))
-      (sound,
-       these-say p d note (list-in here) out out₁ f prime (sound .letter .fewer) (sound .allowed) (sound .list .below) (sound .list .rises) answered (told .1))
+    subst (λ (t : Reply). Read-says p note here out d t out₁) (sym (told .0)) (
+      sound,
+      these-say p d note (list-in here) out out₁ f prime (sound .letter .fewer) (sound .allowed) (sound .list .below) (sound .list .rises) answered (told .1),
+    )
 
 pub reads-beside : (p d k : ℕ) (note list out out₁ : List ℕ) (o : Option Difference) (r : Reply)
     → ∥ Prime p ∥₁
@@ -108,7 +110,7 @@ reads-beside p d k note list out out₁ None r prime sound below rises answered 
     subst (λ (t : Reply). Beside-says p note list k out d t out₁) (sym (told .0)) (sound, (answered, told .1))
 reads-beside p d k note list out out₁ (Some f) r prime sound below rises answered told =
     subst (λ (t : Reply). Beside-says p note list k out d t out₁) (sym (told .0))
-      (sound, these-say p d note list out out₁ f prime (sound .letter .fewer) (sound .allowed) below rises answered (told .1))
+    (sound, these-say p d note list out out₁ f prime (sound .letter .fewer) (sound .allowed) below rises answered (told .1))
 
 -- the same by the code's names for letter, list and size
 pub answered-by : (p m k d : ℕ) (l l′ : Letter) (list list′ : List ℕ) (o : Option Difference)

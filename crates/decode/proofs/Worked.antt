@@ -29,12 +29,13 @@ too-few : (g c : List ℕ) → Explains 65537 3 later here g c → length g + le
 unfolding here rising all-below
 too-few g c one few =
     let same =
-      one-explanation 65537 3 later here g c (5 ∷ []) (3 ∷ 31 ∷ []) prime-65537 (lit< tt) refl refl one later-explained (omega arith) in
+    one-explanation 65537 3 later here g c (5 ∷ []) (3 ∷ 31 ∷ []) prime-65537 (lit< tt) refl refl one later-explained (omega arith) in
     omega (arith, ap length (same .0), ap length (same .1))
 
 pub readings : Readings
 unfolding later here found explained rising all-below all-in none-in has fits-at points letter values value Too-many
-readings =
-    (found-from-test 65537 3 3 (letter 65537 3 (3 ∷ 5 ∷ 20 ∷ [])) (5 ∷ 9 ∷ 20 ∷ []) (9 ∷ []) (3 ∷ []) refl,
-     found-from-test 65537 3 3 (letter 65537 3 (3 ∷ 9 ∷ 20 ∷ 31 ∷ [])) (5 ∷ 9 ∷ 20 ∷ []) (5 ∷ []) (3 ∷ 31 ∷ []) refl,
-     too-few)
+readings = (
+  found-from-test 65537 3 3 (letter 65537 3 (3 ∷ 5 ∷ 20 ∷ [])) (5 ∷ 9 ∷ 20 ∷ []) (9 ∷ []) (3 ∷ []) refl,
+  found-from-test 65537 3 3 (letter 65537 3 (3 ∷ 9 ∷ 20 ∷ 31 ∷ [])) (5 ∷ 9 ∷ 20 ∷ []) (5 ∷ []) (3 ∷ 31 ∷ []) refl,
+  too-few,
+)

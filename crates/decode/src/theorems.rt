@@ -3,5 +3,4 @@ ghost use Rattle.decode.specs.Worked.{Readings};
 
 pub fn readings_worked_out()
     ensures { λ _. ⌜ Readings ⌝ }
-{
-}
+{}
