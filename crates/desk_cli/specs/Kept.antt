@@ -1,4 +1,4 @@
--- The line that a session ends with. Assumes nothing: this is a definition.
+-- The line of the letter at the end. Assumes nothing: this is a definition.
 --
 --   kept-text m ns   the line of the letter of ns with m values
 use mathlib.Core.List.{List}

@@ -1,9 +1,9 @@
 // Reads deeds from standard input, and prints what a desk answers.
-use session::answer;
+use deeds::answer;
 use std::io;
 use std::io::Read;
 
-mod session;
+mod deeds;
 #[cfg(test)]
 mod tests;
 

@@ -1,5 +1,5 @@
 // Inputs, and what is printed for them.
-use crate::session::answer;
+use crate::deeds::answer;
 use std::test::*;
 
 fn prints(rt: &LibcRuntime, input: &[u8], output: &str) -> Result<(), Fail> {

@@ -1,9 +1,9 @@
-// A session at a desk: the bytes that ask, and the lines that answer.
+// Deeds at a desk: the bytes that ask for them, and the lines that answer.
 ghost use Prim.Native.Nat.{_≤_};
 ghost use lib.ListN.{length};
 ghost use mathlib.Core.Path.{_≡_};
 ghost use Rattle.desk_cli.specs.Kept.{kept-text};
-ghost use Rattle.desk_cli.specs.Session.{Malformed, Says};
+ghost use Rattle.desk_cli.specs.Deeds.{Malformed, Says};
 ghost use Rattle.letter.specs.Desks.{desk-of, desk-size};
 ghost use Rattle.letter.specs.Rows.{numbers};
 ghost use Rattle.std.specs.Of.String.{string-bytes};

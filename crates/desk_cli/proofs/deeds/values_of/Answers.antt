@@ -3,7 +3,7 @@ use native.Mathlib.Omega.{arith}
 use Rattle.letter.specs.Rows.{numbers}
 use Rattle.std.specs.Of.Vec.{vec-items}
 use Rattle.desk_cli.proofs.Kept.{one-more, all-of}
-use Rattle.desk_cli.proofs.session.values_of.Needs as need
+use Rattle.desk_cli.proofs.deeds.values_of.Needs as need
 
 pub loop-i-again : need.loop-i-again
 loop-i-again c =

@@ -4,7 +4,7 @@ use Rattle.letter.specs.Desks.{desk-of}
 use Rattle.lines.specs.Text.{letter-text}
 use Rattle.desk_cli.specs.Kept.{kept-text}
 use Rattle.desk_cli.proofs.Kept.{its-line}
-use Rattle.desk_cli.proofs.session.kept_line.Needs as need
+use Rattle.desk_cli.proofs.deeds.kept_line.Needs as need
 
 pub returns : need.returns
 returns c =

@@ -7,8 +7,8 @@ use mathlib.Core.List.{List}
 use mathlib.Core.Logic.{_⊎_}
 use Prim.Native.Nat.{ℕ, _+_, _*_, _<_, _≤_}
 use lib.ListN.{length, getD}
-use Rattle.desk_cli.specs.declared.session.Deed.{Deed}
-use Rattle.desk_cli.specs.declared.session.Deed.the-variants.{Comes, Goes}
+use Rattle.desk_cli.specs.declared.deeds.Deed.{Deed}
+use Rattle.desk_cli.specs.declared.deeds.Deed.the-variants.{Comes, Goes}
 
 abbrev pub kind : Deed → ℕ
 kind (Comes n) = 0
