@@ -1,4 +1,6 @@
 // Reading a letter beside a list: which numbers are gone, and which have come.
+#![tactic(auto)]
+
 pub mod beside;
 mod build;
 mod check;

@@ -1,4 +1,6 @@
 // Tests of the reader: worked rows, every refusal, all explanations at two small primes, and long lists.
+#![tactic(auto)]
+
 #[cfg(test)]
 mod large;
 #[cfg(test)]

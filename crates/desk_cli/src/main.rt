@@ -1,4 +1,6 @@
 // Reads deeds from standard input, and prints what a desk answers.
+#![tactic(auto)]
+
 use deeds::answer;
 use std::io;
 use std::io::Read;

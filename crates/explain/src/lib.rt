@@ -1,4 +1,6 @@
 // What a letter of m values can and cannot tell: the bounds, each with the theorems that it stands for.
+#![tactic(auto)]
+
 ghost use Rattle.std.specs.Prelude.{◌≡◌, ◌+◌, ◌-◌, ◌*◌, ◌%◌, ◌^◌, ◌<◌, ◌≤◌, MatchOption};
 ghost use Rattle.explain.specs.Promise.{OneExplanation, OneExplanationParity, Parity, TrueDifferenceExplains, SameLetter, SameLetterParity, BroughtTogether, BroughtTogetherParity, SomeLettersAlike, powers};
 ghost use Rattle.explain.specs.AnyPoints.{OneExplanationAt, TrueDifferenceAt, SameValuesAt, BroughtTogetherAt};

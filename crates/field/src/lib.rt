@@ -1,4 +1,6 @@
 // Arithmetic modulo a prime.
+#![tactic(auto)]
+
 pub mod modulus;
 pub mod residue;
 pub mod tally;

@@ -1,4 +1,6 @@
 // Letters that are always up to date: rows of values, letters, and desks that keep one.
+#![tactic(auto)]
+
 pub mod desks;
 pub mod letters;
 pub mod refusals;

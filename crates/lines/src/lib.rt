@@ -1,4 +1,6 @@
 // The lines that programs print.
+#![tactic(auto)]
+
 ghost use Rattle.std.specs.Prelude.{◌≡◌, ◌++◌, IfOk, string_bytes};
 ghost use Rattle.lines.specs.Text.{asked_text, difference_text, letter_text, list_text, malformed_text, not_understood_text, opened_text, refusal_text, spaced};
 ghost use Rattle.letter.specs.Letters.{letter_of};

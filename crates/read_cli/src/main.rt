@@ -1,4 +1,6 @@
 // Reads a letter and the cards here from standard input, and prints what differs.
+#![tactic(auto)]
+
 use request::answer;
 use std::io;
 use std::io::Read;

@@ -1,4 +1,6 @@
 // Requests to sites, one to a line of text.
+#![tactic(auto)]
+
 ghost use Rattle.std.specs.Prelude.{◌≡◌, ℕ, List, ◌∷◌, decimal, MatchOption, ◌≢◌};
 ghost use Rattle.script.specs.Arguments.{FitBoth, FitTwo, one_way, pair, pair_and_way, single, verb_word};
 ghost use Rattle.script.specs.Reads.{Any, Fits, Reads};

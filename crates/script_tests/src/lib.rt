@@ -1,4 +1,6 @@
 // Tests of lines, and of the requests that they say.
+#![tactic(auto)]
+
 #[cfg(test)]
 mod tests {
     use script::{Request, Way, parse};

@@ -1,4 +1,6 @@
 // Sites that bring their lists together by letters.
+#![tactic(auto)]
+
 pub mod ladder;
 pub mod network;
 pub mod site;

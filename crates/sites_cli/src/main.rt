@@ -1,4 +1,6 @@
 // Reads requests to several sites from standard input, one to a line, and prints a line for each.
+#![tactic(auto)]
+
 use script_run::answer;
 use std::io;
 use std::io::Read;

@@ -1,4 +1,6 @@
 // Sorted lists: numbers by rising number, each once.
+#![tactic(auto)]
+
 ghost use Rattle.std.specs.Prelude.{◌≡◌, true};
 ghost use Rattle.sorted.specs.Lists.{rising};
 
