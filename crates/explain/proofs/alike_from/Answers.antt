@@ -7,10 +7,10 @@ use Rattle.explain.proofs.alike_from.Goals as goal
 pub returns : goal.returns
 returns c =
     record {
-      exact = omega (arith, c.unique-up-to.ensures.exact);
+      exact = omega (arith, c.unique_up_to.ensures.exact);
       plain = same_letter;
       parity = same_letter_parity;
-      any-points = same_values_at;
+      any_points = same_values_at;
       reached = bound_reached;
       examples = lists_alike;
     }

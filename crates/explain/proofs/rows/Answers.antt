@@ -13,12 +13,12 @@ past (suc p) i m limit n some l is far =
 pub loop-i-init : goal.loop-i-init
 loop-i-init c = sym (powers_none c.args.p)
 
-pub returns-in-default : goal.returns-in-default
-returns-in-default c =
+pub returns-in_default : goal.returns-in_default
+returns-in_default c =
     record {
       exact =
           past c.args.p c.loop-i.-i c.args.m 18446744073709551616 c.loop-i.n (omega arith) c.loop-i-test.true c.loop-i.invariant
-          c.in-default.ensures;
+          c.in_default.ensures;
       alike = some_letters_alike;
     }
 

@@ -10,7 +10,7 @@ returns-then-d-m c =
       exact = search rules;
       plain = brought_together;
       parity = brought_together_parity;
-      any-points = brought_together_at;
+      any_points = brought_together_at;
       examples = letters_amiss;
     }
 
@@ -20,6 +20,6 @@ returns c =
       exact = search rules;
       plain = brought_together;
       parity = brought_together_parity;
-      any-points = brought_together_at;
+      any_points = brought_together_at;
       examples = letters_amiss;
     }

@@ -8,4 +8,4 @@ returns c =
     c.in-Ok.ensures.bytes
     ∙ ap
     (λ t. t ++ (codes " by " ++ (decimal c.args.values ++ (codes ", " ++ (decimal c.args.sent ++ codes " sent")))))
-    c.in-ok-line.ensures
+    c.in_ok-line.ensures

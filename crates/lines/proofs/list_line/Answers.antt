@@ -3,4 +3,4 @@ use Rattle.lines.proofs.list_line.Goals as goal
 
 pub returns : goal.returns
 unfolding list_text
-returns c = c.letter-line.ensures
+returns c = c.letter_line.ensures

@@ -6,9 +6,9 @@ use Rattle.lines.proofs.refusal_line.Goals as goal
 
 pub returns-then-number-eq0 : goal.returns-then-number-eq0
 returns-then-number-eq0 c =
-    IfOk-weaker c.from-str.result _ _
+    IfOk-weaker c.from_str.result _ _
     (λ s e. e ∙ no_memory c.args.refusal c.number-number.result c.number-number.ensures c.if-number-eq0.true)
-    c.from-str.ensures.ok
+    c.from_str.ensures.ok
 
 pub returns : goal.returns
 unfolding refused_text

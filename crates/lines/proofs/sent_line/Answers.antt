@@ -7,9 +7,9 @@ use Rattle.lines.proofs.sent_line.Goals as goal
 pub returns : goal.returns
 unfolding letter_of
 returns g c =
-    IfOk-weaker c.letter-line.result _ _
+    IfOk-weaker c.letter_line.result _ _
     (λ s e.
     e
-    ∙ ap (λ n. letter_text n c.as-slice.result.now) c.count.ensures
-    ∙ ap (λ vs. letter_text c.args.letter.count vs) (c.as-slice.ensures.value ∙ c.in-ok-values.ensures))
-    c.letter-line.ensures
+    ∙ ap (λ n. letter_text n c.as_slice.result.now) c.count.ensures
+    ∙ ap (λ vs. letter_text c.args.letter.count vs) (c.as_slice.ensures.value ∙ c.in_ok-values.ensures))
+    c.letter_line.ensures

@@ -3,14 +3,14 @@ use Rattle.decode.specs.declared.entry.Reply.TheVariants.{These, Refused}
 use Rattle.capi.proofs.Telling.{told_few, reads_by}
 use Rattle.capi.proofs.calls.ridgeweek_read.Goals as goal
 
-pub code-done-requires : goal.code-done-requires
-code-done-requires c =
+pub code_done-requires : goal.code_done-requires
+code_done-requires c =
     told_few c.args.note.now c.args.here.now c.args.out.now c.args.d c.in-These.went c.in-These.branch _ c.in-These.ensures
 
 pub returns-in-These : goal.returns-in-These
 returns-in-These c =
-    reads_by c.args.note.now c.args.here.now c.args.out.now c.args.d _ (These c.in-These.went c.in-These.branch) _ c.code-done.ensures c.in-These.ensures
+    reads_by c.args.note.now c.args.here.now c.args.out.now c.args.d _ (These c.in-These.went c.in-These.branch) _ c.code_done.ensures c.in-These.ensures
 
 pub returns-in-Refused : goal.returns-in-Refused
 returns-in-Refused c =
-    reads_by c.args.note.now c.args.here.now c.args.out.now c.args.d _ (Refused c.in-Refused.refusal) _ c.code-refused.ensures c.in-Refused.ensures
+    reads_by c.args.note.now c.args.here.now c.args.out.now c.args.d _ (Refused c.in-Refused.refusal) _ c.code_refused.ensures c.in-Refused.ensures

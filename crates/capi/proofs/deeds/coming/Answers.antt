@@ -2,9 +2,9 @@
 use Rattle.capi.proofs.Before.{comes_there, comes_not, comes_short, coming_by}
 use Rattle.capi.proofs.deeds.coming.Goals as goal
 
-pub returns-in-default : goal.returns-in-default
-returns-in-default c =
-    comes_there c.args.note.now c.args.list.now c.in-Ok.letter c.in-Ok.ensures c.args.n c.count-count.result _ c.count-count.ensures c.in-default.ensures
+pub returns-in_default : goal.returns-in_default
+returns-in_default c =
+    comes_there c.args.note.now c.args.list.now c.in-Ok.letter c.in-Ok.ensures c.args.n c.count-count.result _ c.count-count.ensures c.in_default.ensures
 
 pub returns-in-Err-comes : goal.returns-in-Err-comes
 returns-in-Err-comes c =

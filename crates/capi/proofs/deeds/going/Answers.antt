@@ -2,9 +2,9 @@
 use Rattle.capi.proofs.Before.{goes_missing, goes_not, going_by}
 use Rattle.capi.proofs.deeds.going.Goals as goal
 
-pub returns-in-default : goal.returns-in-default
-returns-in-default c =
-    goes_missing c.args.note.now c.args.list.now c.in-Ok.letter c.in-Ok.ensures c.args.n c.count-count.result _ c.count-count.ensures c.in-default.ensures
+pub returns-in_default : goal.returns-in_default
+returns-in_default c =
+    goes_missing c.args.note.now c.args.list.now c.in-Ok.letter c.in-Ok.ensures c.args.n c.count-count.result _ c.count-count.ensures c.in_default.ensures
 
 pub returns-in-Err-goes : goal.returns-in-Err-goes
 returns-in-Err-goes c =

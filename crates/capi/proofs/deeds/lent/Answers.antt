@@ -8,4 +8,4 @@ returns-in-Some c =
 
 pub returns : goal.returns
 returns c =
-    held_by c.args.note.now c.args.list.now c.in-Ok.letter c.in-Ok.ensures _ c.count.ensures c.in-default.ensures
+    held_by c.args.note.now c.args.list.now c.in-Ok.letter c.in-Ok.ensures _ c.count.ensures c.in_default.ensures

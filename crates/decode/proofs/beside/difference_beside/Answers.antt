@@ -33,14 +33,14 @@ difference-requires g c =
     let made = c.in-Some.ensures in
     let m : ℕ = c.len-m.result in
     let len_is : c.in-Some.nodes.len ≡ c.len-m.result = made.2 in
-    let row_is = c.from-row-own.ensures.numbers ∙ ap numbers c.values.ensures in
+    let row_is = c.from_row-own.ensures.numbers ∙ ap numbers c.values.ensures in
     let own_is = kept_values p m (letter_of c.in-Ok.kept) (desk_of desk).list _ kept.1 row_is in (
       lit< tt,
       record {
         room = omega (arith, made.1, len_is);
         spots = made.3 ∙ ap (points p) (sym len_is);
         sent = sym c.len-m.ensures ∙ sym len_is;
-        size = sym (values_length c.from-row-own.result) ∙ kept_length p m (desk_of desk).list _ own_is ∙ sym len_is;
+        size = sym (values_length c.from_row-own.result) ∙ kept_length p m (desk_of desk).list _ own_is ∙ sym len_is;
         own = own_is ∙ ap (λ t. values p (points p t) (desk_of desk).list) (sym len_is) ∙ ap (values p (points p c.in-Some.nodes.len)) (sym c.list.ensures);
         rises = ap rising c.list.ensures ∙ desk.list.sorted;
         below =

@@ -26,25 +26,25 @@ build-requires g c =
       ),
     )
 
-pub returns-in-default : goal.returns-in-default
-returns-in-default g c =
+pub returns-in_default : goal.returns-in_default
+returns-in_default g c =
     let s = c.args.sides in
     let b = c.requires.beside in
     none_by_unsolvable g.row.P s.nodes.len c.args.d c.args.many c.args.here.now (numbers s.sent)
     c.args.sizes.gone c.args.sizes.come _ _ _ _ s.modulus.prime b.below b.spots b.own
-    c.requires.sizes.gone c.requires.sizes.come c.build.ensures.unknowns c.build.ensures.equations c.in-default.ensures
+    c.requires.sizes.gone c.requires.sizes.come c.build.ensures.unknowns c.build.ensures.equations c.in_default.ensures
 
-pub split-at-requires : goal.split-at-requires
-split-at-requires g c =
+pub split_at-requires : goal.split_at-requires
+split_at-requires g c =
     let size =
     solution_size c.values.result.now _ c.build.result.unknowns c.values.ensures c.in-Some.ensures.many in
     omega (arith, size, c.build.ensures.unknowns)
 
-pub from-coefficients-come-requires : goal.from-coefficients-come-requires
-from-coefficients-come-requires g c =
+pub from_coefficients-come-requires : goal.from_coefficients-come-requires
+from_coefficients-come-requires g c =
     let size =
     solution_size c.values.result.now _ c.build.result.unknowns c.values.ensures c.in-Some.ensures.many in
-    (lit< tt, (lit< tt, (lit< tt, omega (arith, size, c.split-at.ensures.back_len, c.build.result.narrow))))
+    (lit< tt, (lit< tt, (lit< tt, omega (arith, size, c.split_at.ensures.back_len, c.build.result.narrow))))
 
 pub returns : goal.returns
 returns g c =
@@ -54,12 +54,12 @@ returns g c =
     let m : ℕ = s.nodes.len in
     let a : ℕ = c.args.sizes.gone in
     let xs = c.values.result.now in
-    let cs = coefficients c.from-coefficients-gone.result in
-    let ds = coefficients c.from-coefficients-come.result in
+    let cs = coefficients c.from_coefficients-gone.result in
+    let ds = coefficients c.from_coefficients-come.result in
     let size : length xs ≡ a + c.args.sizes.come =
     solution_size xs _ c.build.result.unknowns c.values.ensures c.in-Some.ensures.many ∙ c.build.ensures.unknowns in
-    let cs-is : cs ≡ plain (take a xs) = c.from-coefficients-gone.ensures.coefficients ∙ ap plain c.split-at.ensures.front in
-    let ds-is : ds ≡ plain (drop a xs) = c.from-coefficients-come.ensures.coefficients ∙ ap plain c.split-at.ensures.back in
+    let cs-is : cs ≡ plain (take a xs) = c.from_coefficients-gone.ensures.coefficients ∙ ap plain c.split_at.ensures.front in
+    let ds-is : ds ≡ plain (drop a xs) = c.from_coefficients-come.ensures.coefficients ∙ ap plain c.split_at.ensures.back in
     let cs-size : length cs ≡ a = ap length cs-is ∙ plain_size (take a xs) ∙ length-take-le a xs (omega arith) in
     let ds-size : length ds ≡ c.args.sizes.come =
     ap length ds-is ∙ plain_size (drop a xs) ∙ length-drop a xs ∙ omega arith in
@@ -75,8 +75,8 @@ returns g c =
           (λ (k : ℕ).
           (x y : List ℕ)
           → Trying p (p - k) 0 cs ds [] [] x y
-          → (x ≡ listed c.find-roots.result.gone) × (y ≡ listed c.find-roots.result.come))
-          c.len.ensures c.find-roots.ensures.only);
-      gone_passed = subst (λ (k : ℕ). Passed (p - k) (listed c.find-roots.result.gone)) c.len.ensures c.find-roots.ensures.gone;
-      come_passed = subst (λ (k : ℕ). Passed (p - k) (listed c.find-roots.result.come)) c.len.ensures c.find-roots.ensures.come;
+          → (x ≡ listed c.find_roots.result.gone) × (y ≡ listed c.find_roots.result.come))
+          c.len.ensures c.find_roots.ensures.only);
+      gone_passed = subst (λ (k : ℕ). Passed (p - k) (listed c.find_roots.result.gone)) c.len.ensures c.find_roots.ensures.gone;
+      come_passed = subst (λ (k : ℕ). Passed (p - k) (listed c.find_roots.result.come)) c.len.ensures c.find_roots.ensures.come;
     }

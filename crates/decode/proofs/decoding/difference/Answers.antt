@@ -6,17 +6,17 @@ use Rattle.decode.proofs.Start.{far_too_many}
 use Rattle.decode.proofs.Whole.{part_listed, told_found, told_more}
 use Rattle.decode.proofs.decoding.difference.Goals as goal
 
-pub returns-in-default : goal.returns-in-default
-returns-in-default g c =
-    far_too_many g.row.P c.args.sides.nodes.len c.args.d _ c.args.here.now c.in-default.ensures
+pub returns-in_default : goal.returns-in_default
+returns-in_default g c =
+    far_too_many g.row.P c.args.sides.nodes.len c.args.d _ c.args.here.now c.in_default.ensures
 
 pub candidate-requires : goal.candidate-requires
 candidate-requires g c =
     let near = c.in-Some.ensures in
     (lit< tt, (c.requires, record { near = near.0; gone = near.1; come = near.2 }))
 
-pub is-found-requires : goal.is-found-requires
-is-found-requires g c =
+pub is_found-requires : goal.is_found-requires
+is_found-requires g c =
     let b = c.requires in
     let only = c.in-Some-candidate.ensures in
     let gone_is = part_listed c.in-Some-candidate.found.gone in
@@ -49,13 +49,13 @@ is-found-requires g c =
       ),
     )
 
-pub returns-then-is-found : goal.returns-then-is-found
-returns-then-is-found g c =
+pub returns-then-is_found : goal.returns-then-is_found
+returns-then-is_found g c =
     told_found g.row.P c.args.sides.nodes.len c.args.d _ c.args.here.now _ _ _ _
-    (part_listed c.in-Some-candidate.found.gone) (part_listed c.in-Some-candidate.found.come) c.if-is-found.ensures
+    (part_listed c.in-Some-candidate.found.gone) (part_listed c.in-Some-candidate.found.come) c.if-is_found.ensures
 
-pub returns-else-is-found : goal.returns-else-is-found
-returns-else-is-found g c =
+pub returns-else-is_found : goal.returns-else-is_found
+returns-else-is_found g c =
     told_more g.row.P c.args.sides.nodes.len c.args.d _ c.args.here.now _ _ _ _
     (part_listed c.in-Some-candidate.found.gone) (part_listed c.in-Some-candidate.found.come) c.in-Some-candidate.ensures.only
-    c.if-is-found.ensures
+    c.if-is_found.ensures

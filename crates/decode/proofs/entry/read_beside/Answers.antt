@@ -11,19 +11,19 @@ pub returns-in-Err : goal.returns-in-Err
 unfolding DueBeside
 returns-in-Err g c = (refl, inl (c.in-Err.ensures.told, c.in-Err.ensures.fault))
 
-pub returns-in-Err-difference-beside : goal.returns-in-Err-difference-beside
-returns-in-Err-difference-beside g c =
+pub returns-in-Err-difference_beside : goal.returns-in-Err-difference_beside
+returns-in-Err-difference_beside g c =
     let read = c.in-Ok.ensures in (
       refl,
       due_unread g.row.P c.args.note.now c.in-Ok.letter.values.len c.args.d (desk_size c.args.desk.now) c.args.out.now _
-          read.sound read.size c.in-Err-difference-beside.ensures,
+          read.sound read.size c.in-Err-difference_beside.ensures,
     )
 
 pub returns-then-length-d : goal.returns-then-length-d
 unfolding DueBeside
 returns-then-length-d g c =
     let read = c.in-Ok.ensures in
-    let kept = c.in-Ok-difference-beside.ensures in (
+    let kept = c.in-Ok-difference_beside.ensures in (
       refl,
       inr
           (inr
@@ -33,16 +33,16 @@ returns-then-length-d g c =
 
 pub tell-requires : goal.tell-requires
 tell-requires g c =
-    room_differs g.row.P _ c.args.d (length c.args.out.now) _ _ c.in-Ok-difference-beside.found
-    c.in-Ok-difference-beside.ensures.says c.if-length-d.false
+    room_differs g.row.P _ c.args.d (length c.args.out.now) _ _ c.in-Ok-difference_beside.found
+    c.in-Ok-difference_beside.ensures.says c.if-length-d.false
 
 pub returns : goal.returns
 returns g c =
     let read = c.in-Ok.ensures in
-    let kept = c.in-Ok-difference-beside.ensures in
+    let kept = c.in-Ok-difference_beside.ensures in
     let note = c.args.note.now in
     reads_beside g.row.P c.args.d (desk_size c.args.desk.now) note (desk_of c.args.desk.now).list c.args.out.now c.tell.new.out
-    c.in-Ok-difference-beside.found c.tell.result
+    c.in-Ok-difference_beside.found c.tell.result
     (record {
       letter = read.sound;
       kept = omega (arith, kept.kept, read.size);
@@ -50,5 +50,5 @@ returns g c =
       room = c.if-length-d.false;
     })
     (differs_by g.row.P c.in-Ok.letter.values.len (get_or note 0 0) c.args.d (letter_of c.in-Ok.letter) (letter_in note)
-    (desk_of c.args.desk.now).list c.in-Ok-difference-beside.found read.size read.says kept.says)
+    (desk_of c.args.desk.now).list c.in-Ok-difference_beside.found read.size read.says kept.says)
     c.tell.ensures

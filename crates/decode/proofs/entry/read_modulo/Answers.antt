@@ -13,14 +13,14 @@ pub returns-in-Err : goal.returns-in-Err
 unfolding Due
 returns-in-Err g c = (refl, inl (c.in-Err.ensures.told, c.in-Err.ensures.fault))
 
-pub returns-in-Err-list-in : goal.returns-in-Err-list-in
+pub returns-in-Err-list_in : goal.returns-in-Err-list_in
 unfolding Due
-returns-in-Err-list-in g c =
+returns-in-Err-list_in g c =
     let read = c.in-Ok.ensures in
     let m-is : c.len-m.result ≡ get_or c.args.note.now 0 0 =
     c.len-m.ensures ∙ ap (λ r. r.len) c.values-sent.ensures ∙ read.size in
     let refused =
-    subst (λ (k : ℕ). ListRefused (g.row.P - k) c.args.here.now c.in-Err-list-in.refusal) m-is c.in-Err-list-in.ensures in
+    subst (λ (k : ℕ). ListRefused (g.row.P - k) c.args.here.now c.in-Err-list_in.refusal) m-is c.in-Err-list_in.ensures in
     (refl, inr (inl (refused.told, (read.sound, refused.fault))))
 
 pub returns-then-d-m : goal.returns-then-d-m
@@ -29,7 +29,7 @@ returns-then-d-m g c =
     let read = c.in-Ok.ensures in
     let m-is : c.len-m.result ≡ get_or c.args.note.now 0 0 =
     c.len-m.ensures ∙ ap (λ r. r.len) c.values-sent.ensures ∙ read.size in
-    let sound = subst (λ (k : ℕ). ListSound (g.row.P - k) c.args.here.now) m-is c.in-Ok-list-in.ensures.1 in
+    let sound = subst (λ (k : ℕ). ListSound (g.row.P - k) c.args.here.now) m-is c.in-Ok-list_in.ensures.1 in
     (refl, inr (inr (inl ((refl, refl), (read.sound, sound, omega (arith, m-is, c.if-d-m.true))))))
 
 pub returns-then-length-d : goal.returns-then-length-d
@@ -38,12 +38,12 @@ returns-then-length-d g c =
     let read = c.in-Ok.ensures in
     let m-is : c.len-m.result ≡ get_or c.args.note.now 0 0 =
     c.len-m.ensures ∙ ap (λ r. r.len) c.values-sent.ensures ∙ read.size in
-    let sound = subst (λ (k : ℕ). ListSound (g.row.P - k) c.args.here.now) m-is c.in-Ok-list-in.ensures.1 in
+    let sound = subst (λ (k : ℕ). ListSound (g.row.P - k) c.args.here.now) m-is c.in-Ok-list_in.ensures.1 in
     (refl, inr (inr (inr ((refl, refl), (read.sound, sound, omega (arith, m-is, c.if-d-m.false), c.if-length-d.true)))))
 
-pub values-at-own-requires : goal.values-at-own-requires
-values-at-own-requires g c =
-    let listed = c.in-Ok-list-in.ensures in (
+pub values_at-own-requires : goal.values_at-own-requires
+values_at-own-requires g c =
+    let listed = c.in-Ok-list_in.ensures in (
       lit< tt,
       (
         lit< tt,
@@ -57,7 +57,7 @@ values-at-own-requires g c =
 
 pub difference-requires : goal.difference-requires
 difference-requires g c =
-    let listed = c.in-Ok-list-in.ensures in
+    let listed = c.in-Ok-list_in.ensures in
     let made = c.in-Some.ensures in
     let len_is : c.in-Some.nodes.len ≡ c.len-m.result = made.2 in (
       lit< tt,
@@ -65,13 +65,13 @@ difference-requires g c =
         room = omega (arith, made.1, len_is);
         spots = made.3 ∙ ap (points g.row.P) (sym len_is);
         sent = sym c.len-m.ensures ∙ sym len_is;
-        size = c.values-at-own.ensures.len;
+        size = c.values_at-own.ensures.len;
         own =
-            c.values-at-own.ensures.values
-            ∙ ap (λ t. values g.row.P t c.in-Ok-list-in.list.now) (made.3 ∙ ap (points g.row.P) (sym len_is));
+            c.values_at-own.ensures.values
+            ∙ ap (λ t. values g.row.P t c.in-Ok-list_in.list.now) (made.3 ∙ ap (points g.row.P) (sym len_is));
         rises = ap rising listed.0 ∙ listed.1.rises;
         below =
-            ap (λ t. all_below (g.row.P - t) c.in-Ok-list-in.list.now) len_is
+            ap (λ t. all_below (g.row.P - t) c.in-Ok-list_in.list.now) len_is
             ∙ ap (all_below (g.row.P - c.len-m.result)) listed.0
             ∙ listed.1.below;
         allowed = omega (arith, len_is, c.if-d-m.false);
@@ -86,7 +86,7 @@ pub returns : goal.returns
 unfolding letter_of
 returns g c =
     let read = c.in-Ok.ensures in
-    let listed = c.in-Ok-list-in.ensures in
+    let listed = c.in-Ok-list_in.ensures in
     let made = c.in-Some.ensures in
     let m-is : c.len-m.result ≡ get_or c.args.note.now 0 0 =
     c.len-m.ensures ∙ ap (λ r. r.len) c.values-sent.ensures ∙ read.size in

@@ -10,11 +10,11 @@ pub returns : goal.returns
 returns c =
     let l = c.in-Ok.letter in
     let ns = (desk_of c.args.desk.now).list in
-    IfOk-weaker c.letter-line.result _ _
+    IfOk-weaker c.letter_line.result _ _
     (λ s e.
     e
-    ∙ ap (λ n. letter_text n c.as-slice.result.now) c.count.ensures
-    ∙ ap (λ vs. letter_text l.count vs) (c.as-slice.ensures.value ∙ c.in-ok-values.ensures)
+    ∙ ap (λ n. letter_text n c.as_slice.result.now) c.count.ensures
+    ∙ ap (λ vs. letter_text l.count vs) (c.as_slice.ensures.value ∙ c.in_ok-values.ensures)
     ∙ its_line l c.size.result ns c.in-Ok.ensures.1
     ∙ ap (λ m. kept_text m ns) c.size.ensures)
-    c.letter-line.ensures
+    c.letter_line.ensures

@@ -8,7 +8,7 @@ loop-i-preserved c =
     one_more c.values-row.result (vec_items c.loop-i.values) (vec_items c.push.new.self) c.loop-i.i c.number.result
     c.in-Some.ensures.0 c.loop-i.invariant
     (c.number.ensures ∙ c.in-Some.ensures.1)
-    c.in-ok-push.ensures.items
+    c.in_ok-push.ensures.items
 
 pub returns : goal.returns
 returns c =

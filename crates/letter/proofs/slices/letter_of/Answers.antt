@@ -9,8 +9,8 @@ use Rattle.letter.specs.declared.row.Row.{Row}
 use Rattle.letter.proofs.Bridges.{all_below_more}
 use Rattle.letter.proofs.slices.letter_of.Goals as goal
 
-pub values-of-values-requires : goal.values-of-values-requires
-values-of-values-requires g c =
+pub values_of-values-requires : goal.values_of-values-requires
+values_of-values-requires g c =
     let read = c.in-Ok.ensures in (
       lit< tt,
       (
@@ -30,12 +30,12 @@ returns g c =
       few = spots.0;
       fewer = spots.1;
       sound = read.1;
-      size = ap (λ (r : Row g.row.P). r.len) new.1 ∙ c.values-of-values.ensures.len ∙ spots.2;
+      size = ap (λ (r : Row g.row.P). r.len) new.1 ∙ c.values_of-values.ensures.len ∙ spots.2;
       says =
           ap (λ t. record { many = t; at = numbers c.new.result.values }) (new.0 ∙ ap length read.0)
           ∙ ap (λ t. record { many = length list; at = t })
           (ap (λ (r : Row g.row.P). numbers r) new.1
-          ∙ c.values-of-values.ensures.numbers
+          ∙ c.values_of-values.ensures.numbers
           ∙ ap (λ t. values g.row.P t c.in-Ok.list.now) spots.3
           ∙ ap (values g.row.P (points g.row.P c.args.m)) read.0);
     }

@@ -5,8 +5,8 @@ use Rattle.sorted.specs.Faults.{FirstFault, Faultless}
 use Rattle.letter.proofs.Words.{list_fault_first, list_fault_number, list_fault_missing, list_sound}
 use Rattle.letter.proofs.slices.list_in.Goals as goal
 
-pub returns-in-default : goal.returns-in-default
-returns-in-default c =
+pub returns-in_default : goal.returns-in_default
+returns-in_default c =
     let none : length c.args.here.now ≤ 0 = search rules in
     record { told = refl; fault = list_fault_first c.args.bound c.args.here.now none }
 
@@ -37,7 +37,7 @@ returns-then-there-count c =
       told = refl;
       fault =
           list_fault_missing c.args.bound xs n first (omega arith) c.if-there-count.true
-          (subst (λ (ys : List ℕ). Faultless c.args.bound (take n ys)) whole c.in-default-first-fault.ensures);
+          (subst (λ (ys : List ℕ). Faultless c.args.bound (take n ys)) whole c.in_default-first_fault.ensures);
     }
 
 pub returns : goal.returns
@@ -52,5 +52,5 @@ returns c =
     let is = ap (λ (ys : List ℕ). take n ys) whole ∙ ap (λ (k : ℕ). take k (drop 1 xs)) all in (
       is,
       list_sound c.args.bound xs first (omega arith)
-          (subst (λ (ys : List ℕ). Faultless c.args.bound ys) is c.in-default-first-fault.ensures),
+          (subst (λ (ys : List ℕ). Faultless c.args.bound ys) is c.in_default-first_fault.ensures),
     )

@@ -7,8 +7,8 @@ use Rattle.letter.proofs.Words.{after, length_after, count_is, values_are, lette
 use Rattle.letter.proofs.slices.read_letter.Goals as goal
 use Rattle.letter.proofs.slices.read_letter.Goals.{then-m-via-then-m, then-m-via-else-m+then-m-2}
 
-pub returns-in-default : goal.returns-in-default
-returns-in-default g c =
+pub returns-in_default : goal.returns-in_default
+returns-in_default g c =
     let none : length c.args.note.now ≤ 0 = search rules in
     record { told = refl; fault = letter_fault_first g.row.P c.args.note.now (λ f. omega (arith, f.0)) }
 
@@ -25,8 +25,8 @@ returns-then-m g c =
           ]);
     }
 
-pub returns-in-default-default : goal.returns-in-default-default
-returns-in-default-default g c =
+pub returns-in_default-default : goal.returns-in_default-default
+returns-in_default-default g c =
     let xs = c.args.note.now in
     let first : 0 < length c.args.note.now = search rules in
     let none : length (after c.args.note.now) ≤ 0 = search rules in

@@ -7,5 +7,5 @@ pub returns : goal.returns
 returns c =
     record {
       size = refl;
-      leaves = list_written c.args.list.now c.args.out.now c.copy-from-slice.new.self c.copy-from-slice.ensures.after c.if-out-count.false;
+      leaves = list_written c.args.list.now c.args.out.now c.copy_from_slice.new.self c.copy_from_slice.ensures.after c.if-out-count.false;
     }

@@ -32,20 +32,20 @@ returns-in-Err g c =
       promise = brought_together_parity;
     }
 
-pub returns-in-Err-difference-beside : goal.returns-in-Err-difference-beside
-returns-in-Err-difference-beside g c =
+pub returns-in-Err-difference_beside : goal.returns-in-Err-difference_beside
+returns-in-Err-difference_beside g c =
     let p = g.row.P in
     let m = c.args.m in
     let d = c.args.d in
     let here = c.args.here.now in
     let there = c.args.there.now in
     let sent = c.in-Ok.ensures in
-    let e = c.in-Err-difference-beside.refusal in
+    let e = c.in-Err-difference_beside.refusal in
     let says : TogetherSays p m d (desk_of there).list (desk_size there) (desk_of here) (desk_size here) (desk_of here) (Refused e) = (
       refl,
       inl
           (unasked_here m c.in-Ok.letter.values.len d (desk_size there) (desk_size here) e sent.0
-          (letter_size m c.in-Ok.letter (desk_of there).list sent.1) c.in-Err-difference-beside.ensures),
+          (letter_size m c.in-Ok.letter (desk_of there).list sent.1) c.in-Err-difference_beside.ensures),
     ) in
     record {
       says = says;
@@ -55,8 +55,8 @@ returns-in-Err-difference-beside g c =
       promise = brought_together_parity;
     }
 
-pub returns-in-default : goal.returns-in-default
-returns-in-default g c =
+pub returns-in_default : goal.returns-in_default
+returns-in_default g c =
     let p = g.row.P in
     let m = c.args.m in
     let d = c.args.d in
@@ -66,8 +66,8 @@ returns-in-default g c =
     let size = letter_size m c.in-Ok.letter (desk_of there).list sent.1 in
     let read =
     read_well p m c.in-Ok.letter.values.len d (letter_of c.in-Ok.letter) (desk_of there).list (desk_of here).list
-    (desk_size there) (desk_size here) c.in-Ok-difference-beside.found sent.0 size sent.1 c.in-Ok-difference-beside.ensures in
-    let says_is = subst (λ (o : Option Difference). Differs p m d (letter p m (desk_of there).list) (desk_of here).list o) c.in-default.is read.1 in
+    (desk_size there) (desk_size here) c.in-Ok-difference_beside.found sent.0 size sent.1 c.in-Ok-difference_beside.ensures in
+    let says_is = subst (λ (o : Option Difference). Differs p m d (letter p m (desk_of there).list) (desk_of here).list o) c.in_default.is read.1 in
     let says : TogetherSays p m d (desk_of there).list (desk_size there) (desk_of here) (desk_size here) (desk_of here) More =
     (read.0, (says_is, refl)) in
     record {
@@ -91,7 +91,7 @@ returns-in-Ok-exchange g c =
     let size = letter_size m c.in-Ok.letter (desk_of there).list sent.1 in
     let read =
     read_well p m c.in-Ok.letter.values.len d (letter_of c.in-Ok.letter) (desk_of there).list (desk_of here).list
-    (desk_size there) (desk_size here) c.in-Ok-difference-beside.found sent.0 size sent.1 c.in-Ok-difference-beside.ensures in
+    (desk_size there) (desk_size here) c.in-Ok-difference_beside.found sent.0 size sent.1 c.in-Ok-difference_beside.ensures in
     let says_is = subst (λ (o : Option Difference). Differs p m d (letter p m (desk_of there).list) (desk_of here).list o) c.in-Some.is read.1 in
     let says : TogetherSays p m d (desk_of there).list (desk_size there) (desk_of here) (desk_size here) (desk_of after) (Brought f) = (
       read.0,
@@ -126,7 +126,7 @@ returns-in-Err-exchange g c =
     let size = letter_size m c.in-Ok.letter (desk_of there).list sent.1 in
     let read =
     read_well p m c.in-Ok.letter.values.len d (letter_of c.in-Ok.letter) (desk_of there).list (desk_of here).list
-    (desk_size there) (desk_size here) c.in-Ok-difference-beside.found sent.0 size sent.1 c.in-Ok-difference-beside.ensures in
+    (desk_size there) (desk_size here) c.in-Ok-difference_beside.found sent.0 size sent.1 c.in-Ok-difference_beside.ensures in
     let says_is = subst (λ (o : Option Difference). Differs p m d (letter p m (desk_of there).list) (desk_of here).list o) c.in-Some.is read.1 in
     let says : TogetherSays p m d (desk_of there).list (desk_size there) (desk_of here) (desk_size here) (desk_of after) (Refused e) = (
       not.same,

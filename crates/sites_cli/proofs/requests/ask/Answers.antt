@@ -7,22 +7,22 @@ use Rattle.sites_cli.specs.Told.{lists_in}
 use Rattle.sites_cli.proofs.Lines.{none_asked, none_truly}
 use Rattle.sites_cli.proofs.requests.ask.Goals as goal
 
-pub returns-in-default : goal.returns-in-default
-returns-in-default c =
-    IfOk-weaker c.answer-line.result _ _
+pub returns-in_default : goal.returns-in_default
+returns-in_default c =
+    IfOk-weaker c.answer_line.result _ _
     (λ s e.
     record {
       answer = _;
       printed = e;
-      says = none_asked c.args.sites.now c.args.i c.args.j c.args.way c.in-default.is;
-      truly = none_truly c.args.sites.now c.args.i c.args.j c.args.way c.in-default.is;
+      says = none_asked c.args.sites.now c.args.i c.args.j c.args.way c.in_default.is;
+      truly = none_truly c.args.sites.now c.args.i c.args.j c.args.way c.in_default.is;
     })
-    c.answer-line.ensures
+    c.answer_line.ensures
 
 pub returns : goal.returns
 unfolding lists_in
 returns c =
-    IfOk-weaker c.answer-line-2.result _ _
+    IfOk-weaker c.answer_line-2.result _ _
     (λ s e.
     record {
       answer = c.ask-answer.result;
@@ -38,4 +38,4 @@ returns c =
           AskTruly 65537 c.args.i c.args.j c.args.way (lists_in o) (lists_of c.ask-answer.new.self) c.ask-answer.result)
           (sym c.in-Some.is) c.ask-answer.ensures.truly;
     })
-    c.answer-line-2.ensures
+    c.answer_line-2.ensures

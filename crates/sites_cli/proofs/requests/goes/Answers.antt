@@ -8,23 +8,23 @@ use Rattle.sites_cli.specs.Told.{lists_in}
 use Rattle.sites_cli.proofs.Lines.{none_passed}
 use Rattle.sites_cli.proofs.requests.goes.Goals as goal
 
-pub returns-in-default : goal.returns-in-default
-returns-in-default c =
-    IfOk-weaker c.deed-line.result _ _
+pub returns-in_default : goal.returns-in_default
+returns-in_default c =
+    IfOk-weaker c.deed_line.result _ _
     (λ s e.
     record {
       start = 0;
       finish = 0;
       result = Err (Site c.args.i);
       printed = e;
-      says = none_passed c.args.sites.now c.args.i (goes c.args.n) c.in-default.is;
+      says = none_passed c.args.sites.now c.args.i (goes c.args.n) c.in_default.is;
     })
-    c.deed-line.ensures
+    c.deed_line.ensures
 
 pub returns : goal.returns
 unfolding lists_in
 returns c =
-    IfOk-weaker c.deed-line-2.result _ _
+    IfOk-weaker c.deed_line-2.result _ _
     (λ s e.
     record {
       start = c.new-tally.result.products;
@@ -40,4 +40,4 @@ returns c =
           (NotPassed 65537 c.args.i (goes c.args.n) (lists_in o) (lists_of c.goes-done.new.self)))
           (sym c.in-Some.is) c.goes-done.ensures.done;
     })
-    c.deed-line-2.ensures
+    c.deed_line-2.ensures

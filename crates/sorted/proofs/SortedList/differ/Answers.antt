@@ -9,8 +9,8 @@ pub returns : goal.returns
 returns c =
     let xs = items_of c.args.self.now in
     let ys = items_of c.args.other.now in
-    let e : c.count-differences.result ≡ differ xs ys =
-    c.count-differences.ensures ∙ ap₂ differ c.as-slice.ensures.value c.as-slice-2.ensures.value in
+    let e : c.count_differences.result ≡ differ xs ys =
+    c.count_differences.ensures ∙ ap₂ differ c.as_slice.ensures.value c.as_slice-2.ensures.value in
     record {
       count = e;
       symmetric = e ∙ differ_sym xs ys;

@@ -6,8 +6,8 @@ use Rattle.sorted.proofs.Difference.{only_rising}
 use Rattle.sorted.proofs.Distance.{brought_there}
 use Rattle.sorted.proofs.SortedList.difference.Goals as goal
 
-pub invariant-of-result : goal.invariant-of-result
-invariant-of-result c = (ap rising c.in-ok-items.ensures ∙ only_rising _ _ c.as-slice.ensures.rises, tt)
+pub invariant_of-result : goal.invariant_of-result
+invariant_of-result c = record { sorted = ap rising c.in_ok-items.ensures ∙ only_rising _ _ c.as_slice.ensures.rises }
 
 pub returns : goal.returns
 returns c =
@@ -16,5 +16,5 @@ returns c =
       does = ap (brought _ _) kept ∙ brought_there _ _ c.args.self.now.sorted c.args.other.now.sorted;
     }
   where
-    kept : vec_items c.in-ok-items.items ≡ only (items_of c.args.self.now) (items_of c.args.other.now)
-    kept = cc (c.in-ok-items.ensures, c.as-slice.ensures.value, c.as-slice-2.ensures.value)
+    kept : vec_items c.in_ok-items.items ≡ only (items_of c.args.self.now) (items_of c.args.other.now)
+    kept = cc (c.in_ok-items.ensures, c.as_slice.ensures.value, c.as_slice-2.ensures.value)

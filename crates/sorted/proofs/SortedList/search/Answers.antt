@@ -4,4 +4,4 @@ use Rattle.sorted.proofs.SortedList.search.Goals as goal
 
 pub returns : goal.returns
 returns c =
-    found_or_gap c.args.n c.args.self.now.items.items _ c.args.self.now.sorted (rw c.as-slice.ensures.value at c.search.ensures)
+    found_or_gap c.args.n c.args.self.now.items.items _ c.args.self.now.sorted (rw c.as_slice.ensures.value at c.search.ensures)

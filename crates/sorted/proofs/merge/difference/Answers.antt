@@ -13,7 +13,7 @@ pub loop-i-preserved-in-Less : goal.loop-i-preserved-in-Less
 loop-i-preserved-in-Less c = (
   omega arith,
   omega arith,
-  moved_on _ _ _ _ _ _ c.in-ok-push.ensures.items
+  moved_on _ _ _ _ _ _ c.in_ok-push.ensures.items
       (only_at_less _ _ c.requires.left c.requires.right _ _ c.loop-i-test.true c.if-j-b.true c.in-Less.ensures) c.loop-i.invariant.2,
 )
 
@@ -35,7 +35,7 @@ loop-i-preserved c = (
 
 pub returns : goal.returns
 returns c =
-    written _ _ _ _ _ c.in-ok-extend-from-slice.ensures.items (take_rest c.args.a.now c.loop-i.i ∙ sym rest) c.loop-i.invariant.2
+    written _ _ _ _ _ c.in_ok-extend_from_slice.ensures.items (take_rest c.args.a.now c.loop-i.i ∙ sym rest) c.loop-i.invariant.2
   where
     rest : only (drop c.loop-i.i c.args.a.now) (drop c.loop-i.j c.args.b.now) ≡ drop c.loop-i.i c.args.a.now
     rest =

@@ -12,7 +12,7 @@ pub loop-i-preserved-in-Less : goal.loop-i-preserved-in-Less
 loop-i-preserved-in-Less c = (
   omega arith,
   omega arith,
-  moved_on _ _ _ _ _ _ c.in-ok-push.ensures.items
+  moved_on _ _ _ _ _ _ c.in_ok-push.ensures.items
       (union_at_less _ _ c.requires.left c.requires.right _ _ c.loop-i-test.true c.if-j-b.true c.in-Less.ensures) c.loop-i.invariant.2,
 )
 
@@ -20,7 +20,7 @@ pub loop-i-preserved-in-Equal : goal.loop-i-preserved-in-Equal
 loop-i-preserved-in-Equal c = (
   omega arith,
   omega arith,
-  moved_on _ _ _ _ _ _ c.in-ok-push-2.ensures.items
+  moved_on _ _ _ _ _ _ c.in_ok-push-2.ensures.items
       (union_at_equal _ _ c.requires.left c.requires.right _ _ c.loop-i-test.true c.if-j-b.true c.in-Equal.ensures) c.loop-i.invariant.2,
 )
 
@@ -28,14 +28,14 @@ pub loop-i-preserved : goal.loop-i-preserved
 loop-i-preserved c = (
   omega arith,
   omega arith,
-  moved_on _ _ _ _ _ _ c.in-ok-push-3.ensures.items
+  moved_on _ _ _ _ _ _ c.in_ok-push-3.ensures.items
       (union_at_greater _ _ c.requires.left c.requires.right _ _ c.loop-i-test.true c.if-j-b.true c.in-Greater.ensures) c.loop-i.invariant.2,
 )
 
 pub returns : goal.returns
 returns c =
-    both_written c.args.a.now c.args.b.now c.loop-i.i c.loop-i.j _ _ _ _ _ c.in-ok-extend-from-slice.ensures.items
-    c.in-ok-extend-from-slice-2.ensures.items rest c.loop-i.invariant.2
+    both_written c.args.a.now c.args.b.now c.loop-i.i c.loop-i.j _ _ _ _ _ c.in_ok-extend_from_slice.ensures.items
+    c.in_ok-extend_from_slice-2.ensures.items rest c.loop-i.invariant.2
   where
     rest :
         put_all (drop c.loop-i.i c.args.a.now) (drop c.loop-i.j c.args.b.now)

@@ -4,5 +4,5 @@ use Rattle.sorted.proofs.slices.search.Goals as goal
 
 pub returns : goal.returns
 returns c =
-    let found = c.binary-search.ensures in
+    let found = c.binary_search.ensures in
     searched_any c.args.n c.args.list.now _ found.bound found.ok found.position

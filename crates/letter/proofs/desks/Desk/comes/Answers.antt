@@ -6,12 +6,12 @@ use Rattle.letter.specs.Desks.{desk_of}
 use Rattle.letter.proofs.Keeping.{up_to_date_by, came_after, came_row, came_values, came_below, came_few}
 use Rattle.letter.proofs.desks.Desk.comes.Goals as goal
 
-pub returns-in-default : goal.returns-in-default
+pub returns-in_default : goal.returns-in_default
 unfolding desk_of
-returns-in-default g c =
+returns-in_default g c =
     let self = c.args.self.now in
     record {
-      done = record { same = refl; uncounted = refl; why = inl ((refl, refl), c.in-default.ensures) };
+      done = record { same = refl; uncounted = refl; why = inl ((refl, refl), c.in_default.ensures) };
       size = refl;
       right = up_to_date_by g.row.P self.nodes.len _ _ self.list.sorted self.below self.right;
     }
@@ -32,12 +32,12 @@ returns-then-len-ge-CAPACITY g c =
       right = up_to_date_by g.row.P self.nodes.len _ _ self.list.sorted self.below self.right;
     }
 
-pub returns-in-default-insert : goal.returns-in-default-insert
+pub returns-in_default-insert : goal.returns-in_default-insert
 unfolding desk_of
-returns-in-default-insert g c =
+returns-in_default-insert g c =
     let self = c.args.self.now in
     let welcome = c.in-Some.ensures in
-    let unchanged = c.in-default-insert.ensures in
+    let unchanged = c.in_default-insert.ensures in
     record {
       done =
           record {
@@ -52,19 +52,19 @@ returns-in-default-insert g c =
           (self.right ∙ ap (values g.row.P (points g.row.P self.nodes.len)) (sym unchanged));
     }
 
-pub invariant-of-self-2 : goal.invariant-of-self-2
-invariant-of-self-2 g c =
+pub invariant_of-self-2 : goal.invariant_of-self-2
+invariant_of-self-2 g c =
     let self = c.args.self.now in
     let welcome = c.in-Some.ensures in
     let put_in = c.in-Ok.ensures.items in
-    let row = came_row g.row.P self.nodes.len c.args.n c.in-Some.residue.value _ _ _ self.spots welcome.residue c.times-each-self.ensures.numbers in (
+    let row = came_row g.row.P self.nodes.len c.args.n c.in-Some.residue.value _ _ _ self.spots welcome.residue c.times_each-self.ensures.numbers in (
       self.room,
       (
         self.spots,
         (
           came_values g.row.P self.nodes.len c.args.n _ _ _ _ welcome.new self.right put_in row,
           (
-            c.times-each-self.ensures.len ∙ self.size,
+            c.times_each-self.ensures.len ∙ self.size,
             (
               came_below _ c.args.n _ _ welcome.small self.below put_in,
               (came_few c.args.n 60000 _ _ (omega (arith, c.if-len-ge-CAPACITY.false, c.len.ensures)) put_in, tt),
@@ -80,7 +80,7 @@ returns g c =
     let self = c.args.self.now in
     let welcome = c.in-Some.ensures in
     let put_in = c.in-Ok.ensures.items in
-    let row = came_row g.row.P self.nodes.len c.args.n c.in-Some.residue.value _ _ _ self.spots welcome.residue c.times-each-self.ensures.numbers in
+    let row = came_row g.row.P self.nodes.len c.args.n c.in-Some.residue.value _ _ _ self.spots welcome.residue c.times_each-self.ensures.numbers in
     record {
       done =
           record {
@@ -88,7 +88,7 @@ returns g c =
             new = welcome.new;
             space = omega (arith, c.if-len-ge-CAPACITY.false, c.len.ensures);
             stepped = came_after g.row.P self.nodes.len c.args.n _ _ _ _ self.list.sorted welcome.small welcome.new put_in row;
-            counted = c.times-each-self.ensures.counted ∙ ap (λ t. (c.args.tally.now.products + t) % 2 ^ 64) self.size;
+            counted = c.times_each-self.ensures.counted ∙ ap (λ t. (c.args.tally.now.products + t) % 2 ^ 64) self.size;
           };
       size = refl;
       right =

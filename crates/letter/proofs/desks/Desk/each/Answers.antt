@@ -16,7 +16,7 @@ pub loop-n-preserved : goal.loop-n-preserved
 loop-n-preserved g c =
     let m = desk_size c.args.self.now in
     let inv = c.loop-n.invariant in
-    let done = c.in-ok-passes.ensures.done in
+    let done = c.in_ok-passes.ensures.done in
     let size : desk_size c.loop-n.self ≡ desk_size c.args.self.now = inv.1 in
     let at : ℕ = c.loop-n.n-index in (
       underway_more g.row.P m c.args.direction c.args.numbers.now (desk_of c.args.self.now).list at
@@ -28,11 +28,11 @@ loop-n-preserved g c =
           (done.counted ∙ ap (λ t. (c.loop-n.tally.products + t) % 2 ^ 64) (size ∙ sym (mul-one m))),
     )
 
-pub returns-in-err-passes : goal.returns-in-err-passes
-returns-in-err-passes g c =
-    let p = err_from_is_err_and c.from-residual.result c.from-residual.ensures.1 in
+pub returns-in_err-passes : goal.returns-in_err-passes
+returns-in_err-passes g c =
+    let p = err_from_is_err_and c.from_residual.result c.from_residual.ensures.1 in
     let inv = c.loop-n.invariant in
-    let not = c.in-err-passes.ensures.done in
+    let not = c.in_err-passes.ensures.done in
     let at : ℕ = c.loop-n.n-index in
     rw (p.1, p.2)
     (record {

@@ -3,18 +3,18 @@ use Rattle.letter.specs.Desks.{desk_of}
 use Rattle.letter.proofs.Keeping.{up_to_date_by, went_after, went_row, went_values, went_below, went_few, went_off}
 use Rattle.letter.proofs.desks.Desk.goes.Goals as goal
 
-pub returns-in-default : goal.returns-in-default
+pub returns-in_default : goal.returns-in_default
 unfolding desk_of
-returns-in-default g c =
+returns-in_default g c =
     let self = c.args.self.now in
     record {
-      done = record { same = refl; uncounted = refl; missing = c.in-default.ensures; told = (refl, refl) };
+      done = record { same = refl; uncounted = refl; missing = c.in_default.ensures; told = (refl, refl) };
       size = refl;
       right = up_to_date_by g.row.P self.nodes.len _ _ self.list.sorted self.below self.right;
     }
 
-pub undo-each-self-requires : goal.undo-each-self-requires
-undo-each-self-requires g c =
+pub undo_each-self-requires : goal.undo_each-self-requires
+undo_each-self-requires g c =
     let self = c.args.self.now in
     let there = c.in-Some.ensures in (
       lit< tt,
@@ -27,19 +27,19 @@ undo-each-self-requires g c =
       ),
     )
 
-pub invariant-of-self : goal.invariant-of-self
-invariant-of-self g c =
+pub invariant_of-self : goal.invariant_of-self
+invariant_of-self g c =
     let self = c.args.self.now in
     let there = c.in-Some.ensures in
     let taken = c.remove.ensures.items in
-    let row = went_row g.row.P self.nodes.len c.args.n c.in-Some.residue.value _ _ _ self.spots there.1 c.undo-each-self.ensures.numbers in (
+    let row = went_row g.row.P self.nodes.len c.args.n c.in-Some.residue.value _ _ _ self.spots there.1 c.undo_each-self.ensures.numbers in (
       self.room,
       (
         self.spots,
         (
           went_values g.row.P self.nodes.len c.args.n _ _ _ _ self.modulus.prime self.room self.below there.0 self.right taken row,
           (
-            c.undo-each-self.ensures.len ∙ self.size,
+            c.undo_each-self.ensures.len ∙ self.size,
             (
               went_below _ c.args.n _ _ self.below taken,
               (went_few c.args.n 60000 _ _ self.few there.0 taken, tt),
@@ -55,13 +55,13 @@ returns g c =
     let self = c.args.self.now in
     let there = c.in-Some.ensures in
     let taken = c.remove.ensures.items in
-    let row = went_row g.row.P self.nodes.len c.args.n c.in-Some.residue.value _ _ _ self.spots there.1 c.undo-each-self.ensures.numbers in
+    let row = went_row g.row.P self.nodes.len c.args.n c.in-Some.residue.value _ _ _ self.spots there.1 c.undo_each-self.ensures.numbers in
     record {
       done =
           record {
             there = there.0;
             stepped = went_after g.row.P self.nodes.len c.args.n _ _ _ _ there.0 taken row;
-            counted = c.undo-each-self.ensures.counted ∙ ap (λ t. (c.args.tally.now.products + t) % 2 ^ 64) self.size;
+            counted = c.undo_each-self.ensures.counted ∙ ap (λ t. (c.args.tally.now.products + t) % 2 ^ 64) self.size;
           };
       size = refl;
       right =

@@ -3,4 +3,4 @@ use Rattle.letter.proofs.desks.Desk.list.Goals as goal
 
 pub returns : goal.returns
 unfolding desk_of
-returns g c = c.as-slice.ensures.value
+returns g c = c.as_slice.ensures.value

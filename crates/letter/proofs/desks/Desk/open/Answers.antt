@@ -5,11 +5,11 @@ use Rattle.letter.proofs.Keeping.{empty_below, empty_few, bare_by}
 use Rattle.letter.proofs.Points.{length_points}
 use Rattle.letter.proofs.desks.Desk.open.Goals as goal
 
-pub returns-in-default : goal.returns-in-default
-returns-in-default g c = record { due = c.in-default.ensures; number_is = refl; place_is = refl }
+pub returns-in_default : goal.returns-in_default
+returns-in_default g c = record { due = c.in_default.ensures; number_is = refl; place_is = refl }
 
-pub invariant-of-result : goal.invariant-of-result
-invariant-of-result g c =
+pub invariant_of-result : goal.invariant_of-result
+invariant_of-result g c =
     let p = g.row.P in
     let nodes = c.in-Some.nodes in
     let made = c.in-Some.ensures in

@@ -3,10 +3,10 @@ use Rattle.linear.specs.Systems.{equations}
 use Rattle.linear.proofs.Verdicts.{some_of, unsolvable, solution}
 use Rattle.linear.proofs.system.System.solve.Goals as goal
 
-pub returns-then-is-some : goal.returns-then-is-some
+pub returns-then-is_some : goal.returns-then-is_some
 unfolding equations
-returns-then-is-some g c =
-    let found = some_of _ _ _ c.find-pivot.ensures (sym c.is-some.ensures ∙ c.if-is-some.true) in
+returns-then-is_some g c =
+    let found = some_of _ _ _ c.find_pivot.ensures (sym c.is_some.ensures ∙ c.if-is_some.true) in
     let s = c.args.self in
     unsolvable s.unknowns s.count c.eliminate-rank.result found.0.row found.0.inverse.value
     s.rows c.eliminate-rank.new.rows c.eliminate-rank.new.pivots

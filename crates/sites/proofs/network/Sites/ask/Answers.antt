@@ -8,22 +8,22 @@ use Rattle.sites.proofs.Answering.{Met, unasked_truly, together_truly, more_trul
 use Rattle.sites.proofs.Listing.{sites_count, list_here, lists_set, lists_kept, right}
 use Rattle.sites.proofs.network.Sites.ask.Goals as goal
 
-pub returns-in-default : goal.returns-in-default
+pub returns-in_default : goal.returns-in_default
 unfolding Unasked Absent
-returns-in-default g c =
+returns-in_default g c =
     let s = c.args.self.now in
-    let none = c.in-default.ensures in
+    let none = c.in_default.ensures in
     record {
       says = (refl, inl ((refl, refl), none));
       truly = unasked_truly g.row.P c.args.i c.args.j c.args.way (lists_of s) _ (λ between. omega (arith, between.asker, none));
       right = right s;
     }
 
-pub returns-in-default-site : goal.returns-in-default-site
+pub returns-in_default-site : goal.returns-in_default-site
 unfolding Unasked
-returns-in-default-site g c =
+returns-in_default-site g c =
     let s = c.args.self.now in
-    let none = c.in-default-site.ensures in
+    let none = c.in_default-site.ensures in
     record {
       says = (refl, inr (inl ((refl, refl), (c.in-Some.ensures.0, inl none))));
       truly = unasked_truly g.row.P c.args.i c.args.j c.args.way (lists_of s) _ (λ between. omega (arith, between.asked, none));
@@ -40,8 +40,8 @@ returns-then-i-j g c =
       right = right s;
     }
 
-pub returns-in-default-climb : goal.returns-in-default-climb
-returns-in-default-climb g c =
+pub returns-in_default-climb : goal.returns-in_default-climb
+returns-in_default-climb g c =
     let s = c.args.self.now in
     let i = c.args.i in
     let j = c.args.j in
@@ -54,11 +54,11 @@ returns-in-default-climb g c =
       here_is = c.in-Some.ensures.1;
     } in
     let says : AskSays g.row.P i j c.args.way (lists_of s) (lists_of s) More =
-    (two.between, (unanswered_at there here (lists_of s) i j c.args.way two c.in-default-climb.ensures, refl)) in
+    (two.between, (unanswered_at there here (lists_of s) i j c.args.way two c.in_default-climb.ensures, refl)) in
     record { says = says; truly = more_truly there here (lists_of s) i j c.args.way two (lists_of s) says; right = right s }
 
-pub index-mut-requires : goal.index-mut-requires
-index-mut-requires g c = omega (arith, c.in-Some.ensures.0, sites_count c.args.self.now)
+pub index_mut-requires : goal.index_mut-requires
+index_mut-requires g c = omega (arith, c.in-Some.ensures.0, sites_count c.args.self.now)
 
 pub returns-in-Ok : goal.returns-in-Ok
 returns-in-Ok g c =
@@ -74,10 +74,10 @@ returns-in-Ok g c =
       here_is = c.in-Some.ensures.1;
     } in
     let inside : c.args.i < vec_len c.args.self.now.sites = omega (arith, c.in-Some.ensures.0, sites_count s) in
-    let x = c.index-mut.result.now in
-    let list_is = list_here s i x inside c.index-mut.ensures.value in
+    let x = c.index_mut.result.now in
+    let list_is = list_here s i x inside c.index_mut.ensures.value in
     let r = c.in-Some-climb.reading in
-    let after = lists_set s _ i c.take-up.new.self refl in
+    let after = lists_set s _ i c.take_up.new.self refl in
     let says : AskSays g.row.P i j c.args.way (lists_of s) _ (Together r) = (
       two.between,
       (
@@ -104,11 +104,11 @@ returns-in-Err g c =
       here_is = c.in-Some.ensures.1;
     } in
     let inside : c.args.i < vec_len c.args.self.now.sites = omega (arith, c.in-Some.ensures.0, sites_count s) in
-    let x = c.index-mut.result.now in
-    let list_is = list_here s i x inside c.index-mut.ensures.value in
+    let x = c.index_mut.result.now in
+    let list_is = list_here s i x inside c.index_mut.ensures.value in
     let r = c.in-Some-climb.reading in
     let not = c.in-Err.ensures in
-    let same = lists_kept s _ i c.take-up.new.self refl (not.0 ∙ list_is) in
+    let same = lists_kept s _ i c.take_up.new.self refl (not.0 ∙ list_is) in
     let unmet = unmet_at there here (lists_of s) i j c.args.way two x r _ list_is c.in-Some-climb.ensures not.1 in
     record {
       says = (same, inr (inr (two.between, unmet)));

@@ -16,7 +16,7 @@ pub returns : goal.returns
 returns g c =
     record {
       done =
-          passed c.args.i (comes c.args.n) c.args.self.now _ c.index-mut.result.now c.comes.new.self _ _ c.comes.result
-          (omega (arith, c.if-i-len.false, c.len.ensures)) c.index-mut.ensures.value refl c.comes.ensures;
+          passed c.args.i (comes c.args.n) c.args.self.now _ c.index_mut.result.now c.comes.new.self _ _ c.comes.result
+          (omega (arith, c.if-i-len.false, c.len.ensures)) c.index_mut.ensures.value refl c.comes.ensures;
       right = right _;
     }

@@ -16,7 +16,7 @@ pub returns : goal.returns
 returns g c =
     record {
       done =
-          passed c.args.i (goes c.args.n) c.args.self.now _ c.index-mut.result.now c.goes.new.self _ _ c.goes.result
-          (omega (arith, c.if-i-len.false, c.len.ensures)) c.index-mut.ensures.value refl c.goes.ensures;
+          passed c.args.i (goes c.args.n) c.args.self.now _ c.index_mut.result.now c.goes.new.self _ _ c.goes.result
+          (omega (arith, c.if-i-len.false, c.len.ensures)) c.index_mut.ensures.value refl c.goes.ensures;
       right = right _;
     }

@@ -2,6 +2,6 @@ use Rattle.std.proofs.Common.{refl, inl}
 use Rattle.sites.specs.Network.{Absent}
 use Rattle.sites.proofs.network.Sites.letter.Goals as goal
 
-pub returns-in-default : goal.returns-in-default
+pub returns-in_default : goal.returns-in_default
 unfolding Absent
-returns-in-default g c = inl ((refl, refl), c.in-default.ensures)
+returns-in_default g c = inl ((refl, refl), c.in_default.ensures)

@@ -16,8 +16,8 @@ returns-then-n-lt-FEWEST g c = inl ((refl, refl), either c.then-n-lt-FEWEST.eith
 pub drop-sites-requires : goal.drop-sites-requires
 drop-sites-requires g c = ((lit< tt, tt), ((λ a h. absurd (not-mem-nil h)), (λ a h. absurd (not-mem-nil h))))
 
-pub drop-sites-requires-in-default : goal.drop-sites-requires-in-default
-drop-sites-requires-in-default g c = ((lit< tt, tt), ((λ a h. absurd (not-mem-nil h)), (λ a h. absurd (not-mem-nil h))))
+pub drop-sites-requires-in_default : goal.drop-sites-requires-in_default
+drop-sites-requires-in_default g c = ((lit< tt, tt), ((λ a h. absurd (not-mem-nil h)), (λ a h. absurd (not-mem-nil h))))
 
 pub returns-in-Err : goal.returns-in-Err
 unfolding NotOpened
@@ -25,9 +25,9 @@ returns-in-Err g c =
     let small = c.in-Err.ensures in
     inr (omega (arith, c.if-n-lt-FEWEST.false), omega (arith, c.if-n-gt-MOST.false), inl (small.1, small.0))
 
-pub returns-in-default : goal.returns-in-default
+pub returns-in_default : goal.returns-in_default
 unfolding NotOpened
-returns-in-default g c =
+returns-in_default g c =
     inr (omega (arith, c.if-n-lt-FEWEST.false), omega (arith, c.if-n-gt-MOST.false), inr (refl, c.in-Ok.ensures.0))
 
 pub loop-k-init : goal.loop-k-init
@@ -49,8 +49,8 @@ loop-k-preserved g c =
       (λ some. fresh.0),
     )
 
-pub invariant-of-result : goal.invariant-of-result
-invariant-of-result g c =
+pub invariant_of-result : goal.invariant_of-result
+invariant_of-result g c =
     let inv = c.loop-k.invariant in
     (omega (arith, inv.1, c.if-n-lt-FEWEST.false), (omega (arith, inv.1, c.if-n-gt-MOST.false), tt))
 

@@ -11,13 +11,13 @@ use Rattle.sites.proofs.Climbing.{rung_small, rung_unread, climbing_more, climbi
 use Rattle.sites.proofs.site.Site.climb.Goals as goal
 
 pub unreachable_requires_in_rest_difference_beside :
-    goal.unreachable-requires-in-default-difference-beside
+    goal.unreachable-requires-in_default-difference_beside
 unreachable_requires_in_rest_difference_beside g c =
     let m = get_or rungs c.loop-m.m-index 0 in
     let fit = rung_small c.loop-m.m-index (omega arith) in
     rung_unread m c.in-Ok.letter.values.len (desk_size c.args.self.now.desk) _ fit.0 fit.1
     (letter_size m c.in-Ok.letter (site_list c.args.there.now) c.in-Ok.ensures.1)
-    c.args.self.now.size c.in-default-difference-beside.ensures
+    c.args.self.now.size c.in_default-difference_beside.ensures
 
 pub returns-in-Some : goal.returns-in-Some
 returns-in-Some g c =
@@ -28,8 +28,8 @@ returns-in-Some g c =
     let sent = c.in-Ok.ensures in
     let read =
     read_well p m c.in-Ok.letter.values.len (m - 1) (letter_of c.in-Ok.letter) there here (desk_size c.args.there.now.desk)
-    (desk_size c.args.self.now.desk) c.in-Ok-difference-beside.found sent.0 (letter_size m c.in-Ok.letter there sent.1) sent.1
-    c.in-Ok-difference-beside.ensures in
+    (desk_size c.args.self.now.desk) c.in-Ok-difference_beside.found sent.0 (letter_size m c.in-Ok.letter there sent.1) sent.1
+    c.in-Ok-difference_beside.ensures in
     climbing_read p there here c.loop-m.m-index c.loop-m.sent _ c.loop-m.invariant (omega arith)
     (record {
       values_is = refl;
@@ -47,10 +47,10 @@ loop-m-preserved g c =
     let sent = c.in-Ok.ensures in
     let read =
     read_well p m c.in-Ok.letter.values.len (m - 1) (letter_of c.in-Ok.letter) there here (desk_size c.args.there.now.desk)
-    (desk_size c.args.self.now.desk) c.in-Ok-difference-beside.found sent.0 (letter_size m c.in-Ok.letter there sent.1) sent.1
-    c.in-Ok-difference-beside.ensures in
+    (desk_size c.args.self.now.desk) c.in-Ok-difference_beside.found sent.0 (letter_size m c.in-Ok.letter there sent.1) sent.1
+    c.in-Ok-difference_beside.ensures in
     climbing_more p there here c.loop-m.m-index c.loop-m.sent c.loop-m.invariant (omega arith)
-    (subst (λ (o : Option Difference). Differs p m (m - 1) (letter p m there) here o) c.in-default-found.is read.1)
+    (subst (λ (o : Option Difference). Differs p m (m - 1) (letter p m there) here o) c.in_default-found.is read.1)
 
 pub returns : goal.returns
 returns g c =
