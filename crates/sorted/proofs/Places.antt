@@ -1,6 +1,6 @@
 -- Numbers by their places in a rising list, and what a search there finds.
-use Rattle.std.proofs.Common.{◌≡◌, ℕ, zero, suc, ◌<◌, ◌≤◌, Bool, true, false, cond, List, [], ◌∷◌, length, get_or, IfOk, Ok, Err, Result, sym, refl, ap, ◌∙◌, arith, MatchResult}
-use Rattle.std.specs.List.{insert, remove}
+use Rattle.std.proofs.Common.{Equal, ◌≡◌, ℕ, zero, suc, ◌<◌, ◌≤◌, Bool, true, false, cond, List, [], ◌∷◌, length, get_or, IfOk, Ok, Err, Result, sym, refl, ap, ◌∙◌, arith, MatchResult}
+use Rattle.std.specs.List.{insert, remove, HoldsAt}
 use Rattle.std.specs.List.Sorted.{IsBinarySearchResult}
 use Rattle.std.proofs.lemmas.Result.{MatchResult-weaker}
 use Rattle.std.proofs.lemmas.List.Sorted.{searched}
@@ -10,6 +10,7 @@ use Rattle.sorted.specs.Edits.{Found, Gap, Hit, Miss, Inserted, Removed}
 use Rattle.sorted.proofs.Members.{has_first, has_later, rising_tail, rising_over}
 use Rattle.sorted.proofs.Insertion.{put_rising, without_rising, put_length, put_there, without_length, without_absent}
 use Rattle.std.specs.Ordering.{nat_cmp}
+use Rattle.std.proofs.lemmas.Cmp.{ranked}
 
 pub has_place : (xs : List ℕ) (i : ℕ) → i < length xs → has xs (get_or xs i 0) ≡ true
 has_place [] i l = absurd (omega arith)
@@ -70,11 +71,12 @@ located n xs r s l =
 -- what it finds in any list, and in one of which it is then known that it rises
 pub searched_any : (n : ℕ) (xs : List ℕ) (r : Result ℕ ℕ)
     → MatchResult r (λ i. i < length xs) (λ i. i ≤ length xs)
-    → IfOk r (λ i. (d : ℕ) → get_or xs i d ≡ n)
+    → IfOk r (HoldsAt (λ y. nat_cmp y n ≡ Equal) xs)
     → IsBinarySearchResult (λ y. nat_cmp y n) xs r
     → MatchResult r (Hit n xs) (Miss n xs)
 searched_any n xs (Ok i) bound ok l =
-    record { inside = bound; is = ok 0; there = rw (ok 0) at (has_place xs i bound); found = λ s. located n xs (Ok i) s l }
+    let is : get_or xs i 0 ≡ n = ranked (get_or xs i 0) n Equal (sym (ok 0)) in
+    record { inside = bound; is = is; there = rw is at (has_place xs i bound); found = λ s. located n xs (Ok i) s l }
 searched_any n xs (Err i) bound ok l = record { inside = bound; gap = λ s. located n xs (Err i) s l }
 
 pub found_or_gap : (n : ℕ) (xs : List ℕ) (r : Result ℕ ℕ) → rising xs ≡ true → MatchResult r (Hit n xs) (Miss n xs) → MatchResult r (Found n xs) (Gap n xs)

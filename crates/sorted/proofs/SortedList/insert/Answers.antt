@@ -10,7 +10,7 @@ invariant_of-self c =
 pub returns-in-Ok : goal.returns-in-Ok
 returns-in-Ok c = inserted_there _ _ _ c.args.self.now.sorted c.in-Ok.ensures.there refl
 
-pub returns-in_ok-insert : goal.returns-in_ok-insert
-returns-in_ok-insert c =
+pub returns-in_ok-insert-in-Err : goal.returns-in_ok-insert-in-Err
+returns-in_ok-insert-in-Err c =
     inserted_new _ _ _ c.args.self.now.sorted c.in-Err.ensures.absent
-    (c.in_ok-insert.ensures.items ∙ c.in-Err.ensures.given)
+    (c.in_ok-insert-in-Err.ensures.items ∙ c.in-Err.ensures.given)

@@ -1,5 +1,6 @@
 -- Each turn moves past the smaller first number, which differs unless both have it.
-use Rattle.std.proofs.Common.{◌≡◌, ◌+◌, ◌-◌, length, drop, arith}
+use Rattle.std.proofs.lemmas.Cmp.{ranked}
+use Rattle.std.proofs.Common.{Less, Equal, Greater, ◌≡◌, ◌+◌, ◌-◌, length, drop, arith}
 use Rattle.sorted.specs.Lists.{differ}
 use Rattle.sorted.proofs.MergeSteps.{differ_at_less, differ_at_equal, differ_at_greater, differ_at_left_end, differ_at_right_end}
 use Rattle.sorted.proofs.merge.count_differences.Goals as goal
@@ -7,17 +8,17 @@ use Rattle.sorted.proofs.merge.count_differences.Goals.{then-loop-i-test+else-j-
 
 pub loop-i-preserved-in-Less : goal.loop-i-preserved-in-Less
 loop-i-preserved-in-Less c =
-    let e = differ_at_less c.args.a.now c.args.b.now c.requires.left c.requires.right c.loop-i.i c.loop-i.j c.loop-i-test.true c.if-j-b.true c.in-Less.ensures in
+    let e = differ_at_less c.args.a.now c.args.b.now c.requires.left c.requires.right c.loop-i.i c.loop-i.j c.loop-i-test.true c.if-j-b.true (ranked _ _ Less c.in-Less.ensures) in
     omega arith
 
 pub loop-i-preserved-in-Equal : goal.loop-i-preserved-in-Equal
 loop-i-preserved-in-Equal c =
-    let e = differ_at_equal c.args.a.now c.args.b.now c.requires.left c.requires.right c.loop-i.i c.loop-i.j c.loop-i-test.true c.if-j-b.true c.in-Equal.ensures in
+    let e = differ_at_equal c.args.a.now c.args.b.now c.requires.left c.requires.right c.loop-i.i c.loop-i.j c.loop-i-test.true c.if-j-b.true (ranked _ _ Equal c.in-Equal.ensures) in
     omega arith
 
 pub loop-i-preserved : goal.loop-i-preserved
 loop-i-preserved c =
-    let e = differ_at_greater c.args.a.now c.args.b.now c.requires.left c.requires.right c.loop-i.i c.loop-i.j c.loop-i-test.true c.if-j-b.true c.in-Greater.ensures in
+    let e = differ_at_greater c.args.a.now c.args.b.now c.requires.left c.requires.right c.loop-i.i c.loop-i.j c.loop-i-test.true c.if-j-b.true (ranked _ _ Greater c.in-Greater.ensures) in
     omega arith
 
 pub returns : goal.returns

@@ -1,5 +1,6 @@
 -- Each turn moves past the smaller first number.
-use Rattle.std.proofs.Common.{◌≡◌, ◌++◌, drop, sym, ap, ◌∙◌, arith}
+use Rattle.std.proofs.lemmas.Cmp.{ranked}
+use Rattle.std.proofs.Common.{Less, Equal, Greater, ◌≡◌, ◌++◌, drop, sym, ap, ◌∙◌, arith}
 use Rattle.std.proofs.lemmas.List.{take_rest}
 use Rattle.sorted.specs.Lists.{only}
 use Rattle.sorted.proofs.MergeSteps.{only_at_less, only_at_equal, only_at_greater, only_at_left_end, only_at_right_end, moved_on, passed_over, written}
@@ -13,8 +14,8 @@ pub loop-i-preserved-in-Less : goal.loop-i-preserved-in-Less
 loop-i-preserved-in-Less c = (
   omega arith,
   omega arith,
-  moved_on _ _ _ _ _ _ c.in_ok-push.ensures.items
-      (only_at_less _ _ c.requires.left c.requires.right _ _ c.loop-i-test.true c.if-j-b.true c.in-Less.ensures) c.loop-i.invariant.2,
+  moved_on _ _ _ _ _ _ c.in_ok-push-in-Less.ensures.items
+      (only_at_less _ _ c.requires.left c.requires.right _ _ c.loop-i-test.true c.if-j-b.true (ranked _ _ Less c.in-Less.ensures)) c.loop-i.invariant.2,
 )
 
 pub loop-i-preserved-in-Equal : goal.loop-i-preserved-in-Equal
@@ -22,7 +23,7 @@ loop-i-preserved-in-Equal c = (
   omega arith,
   omega arith,
   passed_over _ _ _ _
-      (only_at_equal _ _ c.requires.left c.requires.right _ _ c.loop-i-test.true c.if-j-b.true c.in-Equal.ensures) c.loop-i.invariant.2,
+      (only_at_equal _ _ c.requires.left c.requires.right _ _ c.loop-i-test.true c.if-j-b.true (ranked _ _ Equal c.in-Equal.ensures)) c.loop-i.invariant.2,
 )
 
 pub loop-i-preserved : goal.loop-i-preserved
@@ -30,7 +31,7 @@ loop-i-preserved c = (
   omega arith,
   omega arith,
   passed_over _ _ _ _
-      (only_at_greater _ _ c.requires.left c.requires.right _ _ c.loop-i-test.true c.if-j-b.true c.in-Greater.ensures) c.loop-i.invariant.2,
+      (only_at_greater _ _ c.requires.left c.requires.right _ _ c.loop-i-test.true c.if-j-b.true (ranked _ _ Greater c.in-Greater.ensures)) c.loop-i.invariant.2,
 )
 
 pub returns : goal.returns

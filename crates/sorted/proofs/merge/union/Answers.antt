@@ -1,5 +1,6 @@
 -- Each turn moves past the smaller first number.
-use Rattle.std.proofs.Common.{◌≡◌, ◌++◌, drop, ap, arith}
+use Rattle.std.proofs.lemmas.Cmp.{ranked}
+use Rattle.std.proofs.Common.{Less, Equal, Greater, ◌≡◌, ◌++◌, drop, ap, arith}
 use Rattle.sorted.specs.Lists.{put_all}
 use Rattle.sorted.proofs.MergeSteps.{union_at_less, union_at_equal, union_at_greater, union_at_left_end, union_at_right_end, moved_on, both_written}
 use Rattle.sorted.proofs.merge.union.Goals as goal
@@ -12,24 +13,24 @@ pub loop-i-preserved-in-Less : goal.loop-i-preserved-in-Less
 loop-i-preserved-in-Less c = (
   omega arith,
   omega arith,
-  moved_on _ _ _ _ _ _ c.in_ok-push.ensures.items
-      (union_at_less _ _ c.requires.left c.requires.right _ _ c.loop-i-test.true c.if-j-b.true c.in-Less.ensures) c.loop-i.invariant.2,
+  moved_on _ _ _ _ _ _ c.in_ok-push-in-Less.ensures.items
+      (union_at_less _ _ c.requires.left c.requires.right _ _ c.loop-i-test.true c.if-j-b.true (ranked _ _ Less c.in-Less.ensures)) c.loop-i.invariant.2,
 )
 
 pub loop-i-preserved-in-Equal : goal.loop-i-preserved-in-Equal
 loop-i-preserved-in-Equal c = (
   omega arith,
   omega arith,
-  moved_on _ _ _ _ _ _ c.in_ok-push-2.ensures.items
-      (union_at_equal _ _ c.requires.left c.requires.right _ _ c.loop-i-test.true c.if-j-b.true c.in-Equal.ensures) c.loop-i.invariant.2,
+  moved_on _ _ _ _ _ _ c.in_ok-push-in-Equal.ensures.items
+      (union_at_equal _ _ c.requires.left c.requires.right _ _ c.loop-i-test.true c.if-j-b.true (ranked _ _ Equal c.in-Equal.ensures)) c.loop-i.invariant.2,
 )
 
 pub loop-i-preserved : goal.loop-i-preserved
 loop-i-preserved c = (
   omega arith,
   omega arith,
-  moved_on _ _ _ _ _ _ c.in_ok-push-3.ensures.items
-      (union_at_greater _ _ c.requires.left c.requires.right _ _ c.loop-i-test.true c.if-j-b.true c.in-Greater.ensures) c.loop-i.invariant.2,
+  moved_on _ _ _ _ _ _ c.in_ok-push-in-Greater.ensures.items
+      (union_at_greater _ _ c.requires.left c.requires.right _ _ c.loop-i-test.true c.if-j-b.true (ranked _ _ Greater c.in-Greater.ensures)) c.loop-i.invariant.2,
 )
 
 pub returns : goal.returns
