@@ -1,10 +1,11 @@
 // Lists of the numbers below six, one for each of 64 masks, held against plain operations on the masks.
 use crate::{FromSliceError, SortedList, first_fault};
 use std::alloc::AllocError;
+use std::process::Abort;
 use std::test::*;
 
 // The numbers whose bits are set, in order.
-fn numbers(rt: &HostRuntime, mask: u8) -> Result<Vec<u64>, AllocError> {
+fn numbers(rt: &(impl Abort + AllocGlobal), mask: u8) -> Result<Vec<u64>, AllocError> {
     let mut set = Vec::new(rt.alloc());
     for n in 0..6 {
         if mask >> n & 1 == 1 {
@@ -14,30 +15,40 @@ fn numbers(rt: &HostRuntime, mask: u8) -> Result<Vec<u64>, AllocError> {
     Ok(set)
 }
 
-fn list(rt: &HostRuntime, mask: u8) -> Result<SortedList, Fail> {
+fn list(rt: &(impl Abort + AllocGlobal), mask: u8) -> Result<SortedList, Fail> {
     let set = numbers(rt, mask)?;
     Ok(SortedList::from_slice(rt.alloc(), set.as_slice(), 6)?)
 }
 
-fn holds(rt: &HostRuntime, list: &SortedList, mask: u8) -> Result<(), Fail> {
+fn holds(rt: &(impl Abort + AllocGlobal), list: &SortedList, mask: u8) -> Result<(), Fail> {
     let set = numbers(rt, mask)?;
-    assert!(list.as_slice() == set.as_slice());
-    assert_eq!(list.len(), set.len());
+    assert!(rt; list.as_slice() == set.as_slice());
+    assert_eq!(rt; list.len(), set.len());
     Ok(())
 }
 
-fn differences(rt: &HostRuntime, a: &SortedList, b: &SortedList, mask: u8) -> Result<(), Fail> {
+fn differences(
+    rt: &(impl Abort + AllocGlobal),
+    a: &SortedList,
+    b: &SortedList,
+    mask: u8,
+) -> Result<(), Fail> {
     holds(rt, &a.difference(b, rt.alloc())?, mask)
 }
 
-fn unions(rt: &HostRuntime, a: &SortedList, b: &SortedList, mask: u8) -> Result<(), Fail> {
+fn unions(
+    rt: &(impl Abort + AllocGlobal),
+    a: &SortedList,
+    b: &SortedList,
+    mask: u8,
+) -> Result<(), Fail> {
     holds(rt, &a.union(b, rt.alloc())?, mask)
 }
 
-fn pair(rt: &HostRuntime, a: u8, b: u8) -> Result<(), Fail> {
+fn pair(rt: &(impl Abort + AllocGlobal), a: u8, b: u8) -> Result<(), Fail> {
     let left = list(rt, a)?;
     let right = list(rt, b)?;
-    assert_eq!(left.differ(&right), numbers(rt, a ^ b)?.len());
+    assert_eq!(rt; left.differ(&right), numbers(rt, a ^ b)?.len());
     differences(rt, &left, &right, a & !b)?;
     unions(rt, &left, &right, a | b)
 }
@@ -52,17 +63,17 @@ fn all_pairs(rt: HostRuntime) -> Result<(), Fail> {
     Ok(())
 }
 
-fn edits(rt: &HostRuntime, mask: u8, n: u8) -> Result<(), Fail> {
-    assert!(n < 6);
+fn edits(rt: &(impl Abort + AllocGlobal), mask: u8, n: u8) -> Result<(), Fail> {
+    assert!(rt; n < 6);
     let bit = 1u8 << n;
     let mut edited = list(rt, mask)?;
     let there = mask & bit != 0;
-    assert_eq!(edited.contains(u64::from(n)), there);
-    assert_eq!(edited.insert(u64::from(n))?, !there);
+    assert_eq!(rt; edited.contains(u64::from(n)), there);
+    assert_eq!(rt; edited.insert(u64::from(n))?, !there);
     holds(rt, &edited, mask | bit)?;
-    assert!(edited.remove(u64::from(n)));
+    assert!(rt; edited.remove(u64::from(n)));
     holds(rt, &edited, mask & !bit)?;
-    assert!(!edited.remove(u64::from(n)));
+    assert!(rt; !edited.remove(u64::from(n)));
     Ok(())
 }
 

@@ -25,8 +25,8 @@ returns-then-m g c =
           ]);
     }
 
-pub returns-in_default-default : goal.returns-in_default-default
-returns-in_default-default g c =
+pub returns-in_default-rest : goal.returns-in_default-rest
+returns-in_default-rest g c =
     let xs = c.args.note.now in
     let first : 0 < length c.args.note.now = search rules in
     let none : length (after c.args.note.now) ≤ 0 = search rules in

@@ -57,22 +57,14 @@ invariant_of-self-2 g c =
     let self = c.args.self.now in
     let welcome = c.in-Some.ensures in
     let put_in = c.in-Ok.ensures.items in
-    let row = came_row g.row.P self.nodes.len c.args.n c.in-Some.residue.value _ _ _ self.spots welcome.residue c.times_each-self.ensures.numbers in (
-      self.room,
-      (
-        self.spots,
-        (
-          came_values g.row.P self.nodes.len c.args.n _ _ _ _ welcome.new self.right put_in row,
-          (
-            c.times_each-self.ensures.len ∙ self.size,
-            (
-              came_below _ c.args.n _ _ welcome.small self.below put_in,
-              (came_few c.args.n 60000 _ _ (omega (arith, c.if-len-ge-CAPACITY.false, c.len.ensures)) put_in, tt),
-            ),
-          ),
-        ),
-      ),
-    )
+    let row = came_row g.row.P self.nodes.len c.args.n c.in-Some.residue.value _ _ _ self.spots welcome.residue c.times_each-self.ensures.numbers in record {
+      room = self.room;
+      spots = self.spots;
+      right = came_values g.row.P self.nodes.len c.args.n _ _ _ _ welcome.new self.right put_in row;
+      size = c.times_each-self.ensures.len ∙ self.size;
+      below = came_below _ c.args.n _ _ welcome.small self.below put_in;
+      few = came_few c.args.n 60000 _ _ (omega (arith, c.if-len-ge-CAPACITY.false, c.len.ensures)) put_in;
+    }
 
 pub returns : goal.returns
 unfolding desk_of

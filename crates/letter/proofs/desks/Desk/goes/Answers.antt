@@ -32,22 +32,14 @@ invariant_of-self g c =
     let self = c.args.self.now in
     let there = c.in-Some.ensures in
     let taken = c.remove.ensures.items in
-    let row = went_row g.row.P self.nodes.len c.args.n c.in-Some.residue.value _ _ _ self.spots there.1 c.undo_each-self.ensures.numbers in (
-      self.room,
-      (
-        self.spots,
-        (
-          went_values g.row.P self.nodes.len c.args.n _ _ _ _ self.modulus.prime self.room self.below there.0 self.right taken row,
-          (
-            c.undo_each-self.ensures.len ∙ self.size,
-            (
-              went_below _ c.args.n _ _ self.below taken,
-              (went_few c.args.n 60000 _ _ self.few there.0 taken, tt),
-            ),
-          ),
-        ),
-      ),
-    )
+    let row = went_row g.row.P self.nodes.len c.args.n c.in-Some.residue.value _ _ _ self.spots there.1 c.undo_each-self.ensures.numbers in record {
+      room = self.room;
+      spots = self.spots;
+      right = went_values g.row.P self.nodes.len c.args.n _ _ _ _ self.modulus.prime self.room self.below there.0 self.right taken row;
+      size = c.undo_each-self.ensures.len ∙ self.size;
+      below = went_below _ c.args.n _ _ self.below taken;
+      few = went_few c.args.n 60000 _ _ self.few there.0 taken;
+    }
 
 pub returns : goal.returns
 unfolding desk_of

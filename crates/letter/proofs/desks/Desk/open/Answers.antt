@@ -13,23 +13,15 @@ invariant_of-result g c =
     let p = g.row.P in
     let nodes = c.in-Some.nodes in
     let made = c.in-Some.ensures in
-    let none = c.new-list.ensures in (
-      omega (arith, made.1, made.2),
-      (
-        made.3 ∙ ap (points p) (sym made.2),
-        (
-          c.ones-kept.ensures.numbers (points p nodes.len) (length_points p nodes.len ∙ sym c.len.ensures)
-              ∙ ap (values p (points p nodes.len)) (sym none),
-          (
-            c.ones-kept.ensures.len ∙ c.len.ensures,
-            (
-              empty_below _ _ none,
-              (empty_few _ none, tt),
-            ),
-          ),
-        ),
-      ),
-    )
+    let none = c.new-list.ensures in record {
+      room = omega (arith, made.1, made.2);
+      spots = made.3 ∙ ap (points p) (sym made.2);
+      right = c.ones-kept.ensures.numbers (points p nodes.len) (length_points p nodes.len ∙ sym c.len.ensures)
+          ∙ ap (values p (points p nodes.len)) (sym none);
+      size = c.ones-kept.ensures.len ∙ c.len.ensures;
+      below = empty_below _ _ none;
+      few = empty_few _ none;
+    }
 
 pub returns : goal.returns
 unfolding desk_of
