@@ -17,16 +17,16 @@ pub returns-in_default : goal.returns-in_default
 returns-in_default c =
     record {
       exact =
-          past c.args.p c.loop-i.-i c.args.m 18446744073709551616 c.loop-i.n (omega arith) c.loop-i-test.true c.loop-i.invariant
+          past c.args.p c.loop-i._i c.args.m 18446744073709551616 c.loop-i.n (omega arith) c.loop-i-test.true c.loop-i.invariant
           c.in_default.ensures;
       alike = some_letters_alike;
     }
 
 pub loop-i-preserved : goal.loop-i-preserved
 loop-i-preserved c =
-    c.in-Some.ensures.1 ∙ ap (λ t. t * c.args.p) c.loop-i.invariant ∙ sym (powers_more c.args.p c.loop-i.-i)
+    c.in-Some.ensures.1 ∙ ap (λ t. t * c.args.p) c.loop-i.invariant ∙ sym (powers_more c.args.p c.loop-i._i)
 
 pub returns : goal.returns
 returns c =
-    let last : c.loop-i.-i ≡ c.args.m = omega arith in
+    let last : c.loop-i._i ≡ c.args.m = omega arith in
     record { exact = c.loop-i.invariant ∙ ap (powers c.args.p) last; alike = some_letters_alike }

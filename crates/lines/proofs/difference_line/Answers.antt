@@ -10,6 +10,6 @@ returns c =
     gone_and_come c.args.gone.now c.args.come.now
     (string_bytes c.in_ok-line.line) (string_bytes c.in_ok-line-2.line)
     (string_bytes c.push_str.new.self) (string_bytes s)
-    c.in_ok-line.ensures.made c.in_ok-line-2.ensures
+    c.in_ok-line.ensures.ok c.in_ok-line-2.ensures
     c.in_ok-push_str.ensures.bytes e)
     c.push_spaced-2.ensures
