@@ -1,6 +1,6 @@
 -- Words at the front of a line.
 use Rattle.std.proofs.Common.{◌≡◌, ℕ, ◌<◌, ◌≤◌, Bool, true, false, List, [], ◌∷◌, ◌++◌, length, get_or, take, drop, All, sym, refl, ap, ◌∙◌, ⊎_elim, append_assoc, add-zero, arith}
-use Rattle.std.proofs.lemmas.List.Elements.{All-from_get_or}
+use Rattle.std.proofs.lemmas.List.Elements.{All-from_get_or, All-head, All-tail}
 use Rattle.std.proofs.lemmas.List.{append-nil, get_or-drop, get_or-take, length-drop, length-take-le, nil_from_length, take-append-drop}
 use Rattle.std.proofs.lemmas.Bool.{cases_eq, cond-true, cond-false}
 use Rattle.script.specs.Words.{blank, cut, words}
@@ -18,8 +18,8 @@ cut_through : (w v rest : List ℕ) → Alike false w → cut v (w ++ rest) ≡ 
 unfolding cut
 cut_through [] v rest none = ap (λ t. cut t rest) (sym (append-nil v))
 cut_through (b ∷ w) v rest none =
-    cond-false (blank b) _ _ none.0
-    ∙ cut_through w (v ++ b ∷ []) rest none.1
+    cond-false (blank b) _ _ (All-head (λ b. blank b ≡ false) b w none)
+    ∙ cut_through w (v ++ b ∷ []) rest (All-tail (λ b. blank b ≡ false) b w none)
     ∙ ap (λ t. cut t rest) (append_assoc v (b ∷ []) w)
 
 cut_end : (b : ℕ) (w rest : List ℕ) → Ended rest → cut (b ∷ w) rest ≡ (b ∷ w) ∷ cut [] rest
@@ -48,7 +48,9 @@ words_front (b ∷ w) rest some none end = cut_through (b ∷ w) [] rest none �
 pub words_blanks : (w rest : List ℕ) → Alike true w → words (w ++ rest) ≡ words rest
 unfolding cut words
 words_blanks [] rest all = refl
-words_blanks (b ∷ w) rest all = cond-true (blank b) _ _ all.0 ∙ words_blanks w rest all.1
+words_blanks (b ∷ w) rest all =
+    cond-true (blank b) _ _ (All-head (λ b. blank b ≡ true) b w all)
+    ∙ words_blanks w rest (All-tail (λ b. blank b ≡ true) b w all)
 
 pub alike_front : (t : Bool) (bs : List ℕ) (n : ℕ) → n ≤ length bs →
     ((k : ℕ) → k < n → blank (get_or bs k 0) ≡ t) → Alike t (take n bs)

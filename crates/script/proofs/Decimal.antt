@@ -2,6 +2,7 @@
 use Rattle.std.proofs.Common.{◌≡◌, ℕ, ◌+◌, ◌-◌, ◌*◌, ◌^◌, ◌<◌, ◌≤◌, false, List, [], ◌∷◌, ◌++◌, length, get_or, take, drop, decimal, sym, refl, ap, ◌∙◌, subst, ⊎_elim, arith}
 use Rattle.std.proofs.lemmas.Fmt.{decimal_digit, decimal_is_IsNumeral, decimal_nonempty, decimal-digits_value, digits_decimal, first_decimal}
 use Rattle.std.proofs.lemmas.Int.Digits.{digits_more, digits_value_more}
+use Rattle.std.proofs.lemmas.List.Elements.{All-cons, All-nil}
 use Rattle.std.proofs.lemmas.List.{take-append-drop}
 use Rattle.std.proofs.lemmas.Str.Parse.{IsNumeralModel, digit_at, digit_from_value, numerals_by_value, tells_digits}
 use Rattle.std.proofs.lemmas.Bool.{cases_eq}
@@ -80,10 +81,10 @@ not_blank : (c : ℕ) → 48 ≤ c → c ≤ 57 → blank c ≡ false
 not_blank c low high = grind (arith, nat_tests)
 
 digits_solid : (ds : List ℕ) → AllDigits 10 ds → Alike false ds
-digits_solid [] all = tt
+digits_solid [] all = All-nil (λ b. blank b ≡ false)
 digits_solid (d ∷ ds) all =
     let digit = digit_from_value d all.0 in
-    (not_blank d digit.0 digit.1, digits_solid ds all.1)
+    All-cons (λ b. blank b ≡ false) d ds (not_blank d digit.0 digit.1) (digits_solid ds all.1)
 
 pub solid_decimal : (n : ℕ) → Fits n → Alike false (decimal n)
 solid_decimal n small = digits_solid (decimal n) (digits_decimal numerals n small)

@@ -1,6 +1,7 @@
 -- The words of requests: which request they are of, and that its text has them.
 use Rattle.std.proofs.Common.{◌≡◌, ℕ, ◌+◌, ◌<◌, Bool, true, false, cond, not, ◌&&◌, eqb, ltb, List, [], ◌∷◌, ◌++◌, length, get_or, Some, None, codes, decimal, All, Option, sym, refl, ap, ◌∙◌, subst, arith}
 use Rattle.std.proofs.lemmas.Fmt.{decimal_is_IsNumeral, decimal_nonempty}
+use Rattle.std.proofs.lemmas.List.Elements.{All-cons, All-head, All-nil, All-tail}
 use Rattle.std.proofs.lemmas.Bool.{and_parts, ltb-true, not-true}
 use Rattle.std.specs.Str.Parse.{digits_value}
 use Rattle.script.specs.Arguments.{verb_word}
@@ -85,10 +86,10 @@ solid [] = true
 solid (b ∷ w) = not (blank b) && solid w
 
 alike_solid : (w : List ℕ) → solid w ≡ true → Alike false w
-alike_solid [] whole = tt
+alike_solid [] whole = All-nil (λ b. blank b ≡ false)
 alike_solid (b ∷ w) whole =
     let parts = and_parts (not (blank b)) (solid w) whole in
-    (not-true (blank b) parts.0, alike_solid w parts.1)
+    All-cons (λ b. blank b ≡ false) b w (not-true (blank b) parts.0) (alike_solid w parts.1)
 
 literal : (w : List ℕ) → (ltb 0 (length w) && solid w) ≡ true → Word w
 literal w is =
@@ -99,14 +100,31 @@ way_is_word : (w : Way) → Word (way_word w)
 way_is_word Take = literal (codes "take") refl
 way_is_word Join = literal (codes "join") refl
 
-all_words : (q : Request) → InRange q → All Word (words_of q)
-all_words (Open n) h = (literal (codes "open") refl, (decimal_word n h, tt))
-all_words (Comes i n) h = (literal (codes "comes") refl, (decimal_word i h.0, (decimal_word n h.1, tt)))
-all_words (Goes i n) h = (literal (codes "goes") refl, (decimal_word i h.0, (decimal_word n h.1, tt)))
+-- words one after the other, a record so that antt tells them from such a fact
+record AllWords (ws : List (List ℕ)) : Type 0 where
+  pub each : All Word ws
+
+no_words : AllWords []
+no_words = record { each = All-nil Word }
+
+and_word : (w : List ℕ) {ws : List (List ℕ)} → Word w → AllWords ws → AllWords (w ∷ ws)
+and_word w {ws} first rest = record { each = All-cons Word w ws first rest.each }
+
+and_numeral : (n : ℕ) {ws : List (List ℕ)} → Fits n → AllWords ws → AllWords (decimal n ∷ ws)
+and_numeral n small rest = and_word (decimal n) (decimal_word n small) rest
+
+all_words : (q : Request) → InRange q → AllWords (words_of q)
+all_words (Open n) h = and_word (codes "open") (literal (codes "open") refl) (and_numeral n h no_words)
+all_words (Comes i n) h =
+    and_word (codes "comes") (literal (codes "comes") refl) (and_numeral i h.0 (and_numeral n h.1 no_words))
+all_words (Goes i n) h =
+    and_word (codes "goes") (literal (codes "goes") refl) (and_numeral i h.0 (and_numeral n h.1 no_words))
 all_words (Ask i j w) h =
-    (literal (codes "ask") refl, (decimal_word i h.0, (decimal_word j h.1, (way_is_word w, tt))))
-all_words (Request.List i) h = (literal (codes "list") refl, (decimal_word i h, tt))
-all_words (Letter i m) h = (literal (codes "letter") refl, (decimal_word i h.0, (decimal_word m h.1, tt)))
+    and_word (codes "ask") (literal (codes "ask") refl)
+    (and_numeral i h.0 (and_numeral j h.1 (and_word (way_word w) (way_is_word w) no_words)))
+all_words (Request.List i) h = and_word (codes "list") (literal (codes "list") refl) (and_numeral i h no_words)
+all_words (Letter i m) h =
+    and_word (codes "letter") (literal (codes "letter") refl) (and_numeral i h.0 (and_numeral m h.1 no_words))
 
 after_spaces_ends : (ws : List (List ℕ)) → Ended (after_spaces ws)
 unfolding after_spaces
@@ -117,20 +135,22 @@ words_after : (ws : List (List ℕ)) → All Word ws → words (after_spaces ws)
 unfolding after_spaces
 words_after [] all = words_none
 words_after (w ∷ ws) all =
-    words_blanks (32 ∷ []) (w ++ after_spaces ws) (refl, tt)
-    ∙ words_front w (after_spaces ws) all.0.0 all.0.1 (after_spaces_ends ws)
-    ∙ ap (λ t. w ∷ t) (words_after ws all.1)
+    let first : Word w = All-head Word w ws all in
+    words_blanks (32 ∷ []) (w ++ after_spaces ws) (All-cons (λ b. blank b ≡ true) 32 [] refl (All-nil (λ b. blank b ≡ true)))
+    ∙ words_front w (after_spaces ws) first.0 first.1 (after_spaces_ends ws)
+    ∙ ap (λ t. w ∷ t) (words_after ws (All-tail Word w ws all))
 
 words_spaced : (ws : List (List ℕ)) → All Word ws → words (spaced ws) ≡ ws
 unfolding spaced
 words_spaced [] all = words_none
 words_spaced (w ∷ ws) all =
-    words_front w (after_spaces ws) all.0.0 all.0.1 (after_spaces_ends ws)
-    ∙ ap (λ t. w ∷ t) (words_after ws all.1)
+    let first : Word w = All-head Word w ws all in
+    words_front w (after_spaces ws) first.0 first.1 (after_spaces_ends ws)
+    ∙ ap (λ t. w ∷ t) (words_after ws (All-tail Word w ws all))
 
 pub words_text : (q : Request) → InRange q → words (text_of q) ≡ words_of q
 unfolding text_of
-words_text q small = words_spaced (words_of q) (all_words q small)
+words_text q small = words_spaced (words_of q) (all_words q small).each
 
 -- what is written as a request's text is read as that request
 read_back : (line : List ℕ) (r : Option Request) → Reads InRange words_of (words line) r →

@@ -25,7 +25,7 @@ returns-in_err-tens c =
     not_above c.args.word.now n c.loop-byte.byte-index c.loop-byte.n c.in_ok-digit.digit
     small e c.loop-byte-test.true c.loop-byte.invariant.0
     c.in_ok-digit.ensures.0 c.in_ok-digit.ensures.1 in
-    c.in_err-tens.ensures (omega arith))
+    omega arith)
 
 pub returns-in_err-n : goal.returns-in_err-n
 returns-in_err-n c =
@@ -35,7 +35,7 @@ returns-in_err-n c =
     not_above c.args.word.now n c.loop-byte.byte-index c.loop-byte.n c.in_ok-digit.digit
     small e c.loop-byte-test.true c.loop-byte.invariant.0
     c.in_ok-digit.ensures.0 c.in_ok-digit.ensures.1 in
-    c.in_err-n.ensures (omega (arith, c.in_ok-tens.ensures)))
+    omega arith)
 
 pub loop-byte-preserved : goal.loop-byte-preserved
 loop-byte-preserved c =
