@@ -1,5 +1,5 @@
 -- What can stop an exchange of numbers gone, which are on the list, for numbers come, which are not.
-use Rattle.std.proofs.Common.{◌≡◌, ℕ, ◌+◌, ◌-◌, ◌<◌, ◌≤◌, true, false, ◌⊎◌, List, [], ◌∷◌, ◌++◌, length, subst, inl, inr, arith}
+use Rattle.std.proofs.Common.{◌≡◌, ℕ, true, false, List, [], ◌∷◌, ◌++◌, subst, inl, inr, arith}
 use Rattle.std.proofs.lemmas.Bool.Decides.{nat_tests}
 use Rattle.sorted.specs.Lists.{has, rising, put, without, without_all}
 use Rattle.sorted.proofs.Members.{has_first, has_later, rising_tail, rising_over}

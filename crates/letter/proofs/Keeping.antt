@@ -1,5 +1,5 @@
 -- Desks: what holds at the opening and after each deed.
-use Rattle.std.proofs.Common.{◌≡◌, ℕ, suc, ◌+◌, ◌-◌, ◌<◌, ◌≤◌, Bool, true, false, not, ◌&&◌, ltb, List, [], length, take, sym, refl, ap, ◌∙◌, subst, add-one, arith}
+use Rattle.std.proofs.Common.{◌≡◌, ℕ, suc, ◌+◌, ◌-◌, ◌<◌, ◌≤◌, true, false, not, ◌&&◌, ltb, List, [], length, take, sym, ap, ◌∙◌, subst, add-one, arith}
 use mathlib.Core.List.{is_set}
 use mathlib.Core.Logic.{∥∥₁_elim}
 use native.Mathlib.Nat.{ℕ_set}
@@ -13,9 +13,8 @@ use Rattle.sorted.specs.Lists.{all_below, has, put, without, rising, pick}
 use Rattle.sorted.specs.Sorted.{items_of}
 use Rattle.sorted.proofs.Insertion.{put_length, put_length_le, put_below, without_length, without_below}
 use Rattle.letter.proofs.Kept.{values_put, values_without}
-use Rattle.letter.specs.Letter.{points, values, letter, Letter, Desk, bare, step, comes, goes, times_each, undo_each}
+use Rattle.letter.specs.Letter.{points, values, letter, Desk, bare, step, comes, goes, times_each, undo_each}
 use Rattle.letter.specs.Desks.{desk_of, desk_size, UpToDate}
-use Rattle.letter.specs.Rows.{numbers}
 use Rattle.letter.specs.declared.desks.Desk.{Desk as Kept}
 
 pub empty_below : (b : ℕ) (ns : List ℕ) → ns ≡ [] → all_below b ns ≡ true

@@ -1,5 +1,5 @@
 -- The points' laws together, that order does not matter, and values worked out.
-use Rattle.std.proofs.Common.{◌≡◌, ℕ, ◌*◌, ◌%◌, sym, refl, ap, ◌∙◌, mul_comm}
+use Rattle.std.proofs.Common.{◌%◌, sym, refl, ap, ◌∙◌, mul_comm}
 use Rattle.field.specs.Polynomial.{value}
 use Rattle.field.proofs.Values.{value_append}
 use Rattle.letter.specs.Letter.{points, values}

@@ -1,5 +1,5 @@
 -- The number that is carried is the one that the new list has at the place.
-use Rattle.std.proofs.Common.{◌≡◌, ◌+◌, ◌<◌, ◌≤◌, ◌++◌, length, get_or, take, drop, set, sym, ap, ◌∙◌, add-one, arith}
+use Rattle.std.proofs.Common.{◌≡◌, ◌<◌, ◌≤◌, ◌++◌, length, get_or, take, drop, set, sym, ap, ◌∙◌, add-one, arith}
 use Rattle.std.specs.List.{insert}
 use Rattle.sorted.proofs.Shifts.{over_more, over_later, inserted_length, inserted_start, inserted_here, inserted_later, inserted_past, inserted_end}
 use Rattle.sorted.proofs.slices.insert_at.Goals as goal

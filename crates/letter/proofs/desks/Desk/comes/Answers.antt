@@ -1,4 +1,4 @@
-use Rattle.std.proofs.Common.{◌≡◌, ◌+◌, ◌-◌, ◌%◌, ◌^◌, length, sym, refl, ap, ◌∙◌, inl, inr, arith}
+use Rattle.std.proofs.Common.{◌+◌, ◌-◌, ◌%◌, ◌^◌, length, sym, refl, ap, ◌∙◌, inl, inr, arith}
 use Rattle.sorted.specs.Lists.{all_below}
 use Rattle.letter.specs.Letter.{points, values}
 use Rattle.letter.specs.Rows.{numbers}

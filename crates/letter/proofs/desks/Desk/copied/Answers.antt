@@ -1,4 +1,4 @@
-use Rattle.std.proofs.Common.{◌≡◌, length, refl, ap}
+use Rattle.std.proofs.Common.{length, refl, ap}
 use Rattle.letter.specs.Desks.{desk_of}
 use Rattle.letter.specs.Rows.{numbers}
 use Rattle.letter.proofs.desks.Desk.copied.Goals as goal

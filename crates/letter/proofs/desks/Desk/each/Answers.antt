@@ -1,7 +1,7 @@
-use Rattle.std.proofs.Common.{◌≡◌, ℕ, ◌+◌, ◌*◌, ◌%◌, ◌^◌, ◌≤◌, length, get_or, sym, refl, ap, ◌∙◌, subst, mul-one, arith}
+use Rattle.std.proofs.Common.{◌≡◌, ℕ, ◌+◌, ◌*◌, ◌%◌, ◌^◌, length, get_or, sym, refl, ap, ◌∙◌, subst, mul-one, arith}
 use Rattle.std.proofs.lemmas.Result.{err_from_is_err_and}
 use Rattle.letter.specs.Desks.{desk_of, desk_size}
-use Rattle.letter.specs.Exchanges.{Free, deed, deeds}
+use Rattle.letter.specs.Exchanges.{Free, deed}
 use Rattle.letter.proofs.Exchanges.{underway_none, underway_more, underway_stop, underway_free, underway_list, length_deeds, tallied_none, tallied_more}
 use Rattle.letter.proofs.desks.Desk.each.Goals as goal
 

@@ -1,4 +1,4 @@
-use Rattle.std.proofs.Common.{◌≡◌, sym, refl, ap, ◌∙◌, subst, inl, inr}
+use Rattle.std.proofs.Common.{refl, ◌∙◌, inl}
 use Rattle.std.proofs.lemmas.Result.{err_from_is_err_and}
 use Rattle.letter.specs.Desks.{desk_of, desk_size}
 use Rattle.letter.proofs.Exchanges.{stopped_going, stopped_coming, exchanged}

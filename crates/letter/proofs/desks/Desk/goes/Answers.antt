@@ -1,4 +1,4 @@
-use Rattle.std.proofs.Common.{◌≡◌, ◌+◌, ◌-◌, ◌%◌, ◌^◌, sym, refl, ap, ◌∙◌, lit<}
+use Rattle.std.proofs.Common.{◌+◌, ◌%◌, ◌^◌, sym, refl, ap, ◌∙◌, lit<}
 use Rattle.letter.specs.Desks.{desk_of}
 use Rattle.letter.proofs.Keeping.{up_to_date_by, went_after, went_row, went_values, went_below, went_few, went_off}
 use Rattle.letter.proofs.desks.Desk.goes.Goals as goal

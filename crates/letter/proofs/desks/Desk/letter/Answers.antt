@@ -1,4 +1,4 @@
-use Rattle.std.proofs.Common.{◌≡◌, ◌≤◌, length, take, sym, refl, ap, ◌∙◌, arith}
+use Rattle.std.proofs.Common.{◌≤◌, length, take, ap, ◌∙◌, arith}
 use Rattle.sorted.specs.Sorted.{items_of}
 use Rattle.letter.specs.Letter.{letter}
 use Rattle.letter.specs.Letters.{letter_of}

@@ -1,4 +1,4 @@
-use Rattle.std.proofs.Common.{◌≡◌, ◌<◌, [], sym, refl, ap, ◌∙◌, arith}
+use Rattle.std.proofs.Common.{sym, refl, ap, ◌∙◌, arith}
 use Rattle.letter.specs.Letter.{points, values}
 use Rattle.letter.specs.Desks.{desk_of}
 use Rattle.letter.proofs.Keeping.{empty_below, empty_few, bare_by}

@@ -1,4 +1,4 @@
-use Rattle.std.proofs.Common.{◌≡◌, sym, subst, MatchResult}
+use Rattle.std.proofs.Common.{sym, subst, MatchResult}
 use Rattle.letter.specs.Desks.{desk_of, desk_size}
 use Rattle.letter.specs.Exchanges.{Done, NotDone, deed}
 use Rattle.letter.specs.declared.desks.Direction.{Direction}
