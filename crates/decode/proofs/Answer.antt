@@ -1,5 +1,5 @@
 -- From what was found to the answer of the reader.
-use Rattle.std.proofs.Common.{◌≡◌, ℕ, ◌+◌, ◌-◌, ◌*◌, ◌<◌, ◌≤◌, true, List, ◌++◌, length, get_or, drop, Some, None, Option, sym, refl, ap, ◌∙◌, subst, inl, inr, arith, MatchOption}
+use Rattle.std.proofs.Common.{◌≡◌, ℕ, ◌+◌, ◌-◌, ◌<◌, ◌≤◌, true, List, ◌++◌, length, get_or, drop, Some, None, Option, sym, ap, ◌∙◌, subst, inl, inr, arith, MatchOption}
 use mathlib.Core.List.{is_set}
 use mathlib.Core.Logic.{∥∥₁_elim}
 use native.Mathlib.Nat.{ℕ_set}
@@ -9,14 +9,13 @@ use Rattle.letter.specs.Letter.{Letter, letter, points, values}
 use Rattle.letter.proofs.Pointwise.{length_values}
 use Rattle.letter.proofs.Points.{length_points}
 use Rattle.letter.specs.declared.refusals.Refusal.{Refusal}
-use Rattle.letter.specs.Slices.{letter_in, list_in, LetterSound, ListSound}
+use Rattle.letter.specs.Slices.{letter_in, list_in, LetterSound}
 use Rattle.explain.specs.Explanation.{Explains, Found, TooMany, these}
 use Rattle.explain.proofs.Reading.{one_explanation}
 use Rattle.decode.specs.Beside.{ToldBy, Differs, Unread}
 use Rattle.decode.specs.Entry.{Room, Tells, Sound, TheseSay, ReadSays, SoundBeside, DueBeside, BesideSays}
 use Rattle.decode.specs.Numbers.{listed}
 use Rattle.decode.specs.declared.entry.Reply.{Reply}
-use Rattle.decode.specs.declared.entry.Reply.TheVariants.{These, More, Refused}
 use Rattle.decode.specs.declared.numbers.Difference.{Difference}
 use Rattle.decode.proofs.Listing.{length_listed}
 

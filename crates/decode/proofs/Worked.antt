@@ -1,10 +1,10 @@
 -- Three readings, by computation, and the last by uniqueness: the only explanation has three numbers.
-use Rattle.std.proofs.Common.{◌≡◌, ℕ, ◌+◌, ◌≤◌, List, [], ◌∷◌, length, refl, ap, arith, lit<}
+use Rattle.std.proofs.Common.{ℕ, ◌+◌, ◌≤◌, List, [], ◌∷◌, length, refl, ap, arith, lit<}
 use Rattle.field.specs.Polynomial.{value}
 use Rattle.field.proofs.Primality.{prime_65537}
 use Rattle.sorted.specs.Lists.{has, rising, all_below}
 use Rattle.letter.specs.Letter.{points, values, letter, Letter}
-use Rattle.explain.specs.Explanation.{Explains, Found, TooMany, fits_at, all_in, none_in}
+use Rattle.explain.specs.Explanation.{Explains, TooMany, fits_at, all_in, none_in}
 use Rattle.explain.proofs.Reading.{one_explanation}
 use Rattle.decode.specs.Test.{explained, found}
 use Rattle.decode.specs.Worked.{Readings}

@@ -1,5 +1,5 @@
 -- Three readings, worked out: letters of three values beside the list 5, 9, 20.
-use Rattle.std.specs.Prelude.{ℕ, List, [], ◌∷◌}
+use Rattle.std.specs.Prelude.{[], ◌∷◌}
 use Rattle.letter.specs.Letter.{letter}
 use Rattle.explain.specs.Explanation.{Found, TooMany}
 

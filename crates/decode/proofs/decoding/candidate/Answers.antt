@@ -1,10 +1,9 @@
-use Rattle.std.proofs.Common.{◌≡◌, ℕ, ◌+◌, ◌-◌, ◌≤◌, List, [], ◌++◌, length, take, drop, sym, refl, ap, ◌∙◌, subst, arith, lit<}
+use Rattle.std.proofs.Common.{◌≡◌, ℕ, ◌+◌, ◌-◌, List, [], ◌++◌, length, take, drop, sym, ap, ◌∙◌, subst, arith, lit<}
 use Rattle.std.proofs.lemmas.List.{length-take-le, length-drop}
 use Rattle.letter.specs.Rows.{numbers, plain}
 use Rattle.field.specs.Prime.{Prime}
 use Rattle.decode.specs.Numbers.{listed}
 use Rattle.decode.specs.Polynomials.{coefficients}
-use Rattle.decode.specs.Sizes.{gone_size, come_size}
 use Rattle.decode.specs.Steps.{Passed}
 use Rattle.decode.specs.Trial.{Trying}
 use Rattle.decode.proofs.Sizes.{sizes_within}

@@ -1,7 +1,5 @@
-use Rattle.std.proofs.Common.{◌≡◌, ◌-◌, sym, refl, ap, ◌∙◌, arith, lit<}
+use Rattle.std.proofs.Common.{◌-◌, ap, ◌∙◌, lit<}
 use Rattle.sorted.specs.Lists.{rising, all_below}
-use Rattle.letter.specs.Rows.{numbers}
-use Rattle.decode.specs.Numbers.{listed}
 use Rattle.decode.proofs.Start.{far_too_many}
 use Rattle.decode.proofs.Whole.{part_listed, told_found, told_more}
 use Rattle.decode.proofs.decoding.difference.Goals as goal
@@ -33,13 +31,13 @@ is_found-requires g c =
               (
                 b.rises,
                 (
-                  ap rising gone_is ∙ only.gone_passed.rises,
                   (
+                    ap rising gone_is ∙ only.gone_passed.rises,
                     ap (all_below (g.row.P - c.args.sides.nodes.len)) gone_is ∙ only.gone_passed.below,
-                    (
-                      ap rising come_is ∙ only.come_passed.rises,
-                      ap (all_below (g.row.P - c.args.sides.nodes.len)) come_is ∙ only.come_passed.below,
-                    ),
+                  ),
+                  (
+                    ap rising come_is ∙ only.come_passed.rises,
+                    ap (all_below (g.row.P - c.args.sides.nodes.len)) come_is ∙ only.come_passed.below,
                   ),
                 ),
               ),

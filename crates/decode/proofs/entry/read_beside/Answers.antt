@@ -1,9 +1,8 @@
-use Rattle.std.proofs.Common.{◌≡◌, ℕ, ◌<◌, ◌≤◌, ◌⊎◌, length, get_or, sym, refl, ap, ◌∙◌, subst, inl, inr, arith}
-use Rattle.letter.specs.Desks.{desk_of, desk_size, Told}
+use Rattle.std.proofs.Common.{length, get_or, refl, inl, inr, arith}
+use Rattle.letter.specs.Desks.{desk_of, desk_size}
 use Rattle.letter.specs.Letters.{letter_of}
 use Rattle.letter.specs.Slices.{letter_in}
-use Rattle.decode.specs.Beside.{Unread}
-use Rattle.decode.specs.Entry.{DueBeside, SoundBeside}
+use Rattle.decode.specs.Entry.{DueBeside}
 use Rattle.decode.proofs.Answer.{room_differs, reads_beside, differs_by, due_unread}
 use Rattle.decode.proofs.entry.read_beside.Goals as goal
 

@@ -1,4 +1,4 @@
-use Rattle.std.proofs.Common.{◌≡◌, ℕ, ◌-◌, ◌≤◌, List, length, get_or, sym, refl, ap, ◌∙◌, subst, inl, inr, arith, lit<}
+use Rattle.std.proofs.Common.{◌≡◌, ℕ, ◌-◌, length, get_or, sym, refl, ap, ◌∙◌, subst, inl, inr, arith, lit<}
 use Rattle.sorted.specs.Lists.{all_below, rising}
 use Rattle.letter.specs.Letter.{points, values}
 use Rattle.letter.specs.Letters.{letter_of}
