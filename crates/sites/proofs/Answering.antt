@@ -1,5 +1,5 @@
 -- When one site asks another one: what is taken up, what is in the way, and when the true difference is told.
-use Rattle.std.proofs.Common.{◌≡◌, ℕ, ◌+◌, ◌-◌, ◌<◌, ◌≤◌, Bool, true, false, ◌≢◌, ◌⊎◌, List, [], ◌∷◌, length, set, sym, refl, ap, ◌∙◌, subst, inl, inr, arith}
+use Rattle.std.proofs.Common.{◌≡◌, ℕ, ◌+◌, ◌-◌, ◌<◌, ◌≤◌, Bool, true, ◌⊎◌, List, [], ◌∷◌, length, refl, ap, ◌∙◌, subst, inl, inr, arith}
 use Rattle.std.proofs.lemmas.List.{get_or-set_same, get_or-set_other}
 use Rattle.std.proofs.lemmas.Bool.{cases_order}
 use Rattle.std.proofs.lemmas.Bool.Decides.{nat_tests}
@@ -9,8 +9,8 @@ use Rattle.sorted.proofs.Members.{has_below, equal_by_members, rising_none}
 use Rattle.sorted.proofs.Difference.{only_has}
 use Rattle.sorted.proofs.Distance.{brought_there}
 use Rattle.sorted.proofs.Union.{put_all_has, put_all_rising}
-use Rattle.letter.specs.Desks.{Told, desk_of, desk_size}
-use Rattle.letter.specs.Exchanges.{Stopped, Halts, replacing}
+use Rattle.letter.specs.Desks.{Told}
+use Rattle.letter.specs.Exchanges.{Halts}
 use Rattle.letter.specs.Letter.{letter}
 use Rattle.letter.specs.Refusals.{capacity}
 use Rattle.letter.specs.declared.refusals.Refusal.{Refusal}
@@ -19,15 +19,14 @@ use Rattle.letter.proofs.Halting.{replacing_stop}
 use Rattle.letter.proofs.Keeping.{up_to_date}
 use Rattle.explain.specs.Explanation.{Explains}
 use Rattle.explain.proofs.Subsets.{all_in_has, none_in_has}
-use Rattle.sites.specs.Asking.{Between, Halted, Unmet, Unasked, AskSays, AskTruly, Near, Far, met}
+use Rattle.sites.specs.Asking.{Between, Halted, Unmet, AskSays, AskTruly, met}
 use Rattle.sites.specs.Ladder.{rungs, Answers, Unanswered, Truthful, gone_of, come_of}
-use Rattle.sites.specs.Network.{list_at, Absent}
+use Rattle.sites.specs.Network.{list_at}
 use Rattle.sites.specs.Site.{site_list}
 use Rattle.sites.specs.Taking.{taken_up, Untaken}
 use Rattle.sites.specs.declared.ladder.Reading.{Reading}
 use Rattle.sites.specs.declared.ladder.Way.{Way}
 use Rattle.sites.specs.declared.ladder.Way.TheVariants.{Take, Join}
-use Rattle.sites.specs.declared.network.asking.Answer.{Answer}
 use Rattle.sites.specs.declared.network.asking.Answer.TheVariants.{Together, More, Refused}
 use Rattle.sites.specs.declared.site.Site.{Site}
 use Rattle.sites.proofs.Bringing.{found_explains, explained_halts, left_length, few_there}

@@ -1,5 +1,5 @@
 -- Two desks and one letter: what the explanation that is told does to the list here, and when it is the true difference.
-use Rattle.std.proofs.Common.{◌≡◌, ℕ, ◌+◌, ◌-◌, ◌*◌, ◌<◌, ◌≤◌, true, false, ◌⊎◌, List, [], length, Some, None, Option, sym, refl, ap, ◌∙◌, subst, inl, inr, arith}
+use Rattle.std.proofs.Common.{◌≡◌, ℕ, ◌+◌, ◌-◌, ◌*◌, ◌<◌, ◌≤◌, true, ◌⊎◌, List, length, Option, sym, ap, ◌∙◌, subst, inl, inr, arith}
 use mathlib.Core.Logic.{∥∥₁_elim}
 use mathlib.Core.HLevel.{⊥_prop}
 use Rattle.std.proofs.lemmas.Bool.Decides.{nat_tests}
@@ -27,7 +27,7 @@ use Rattle.decode.specs.Beside.{ToldBy, Differs, Read, Unread}
 use Rattle.decode.specs.declared.numbers.Difference.{Difference}
 use Rattle.decode.specs.Numbers.{listed}
 use Rattle.decode.proofs.Evaluation.{below_weaker, numbers_length}
-use Rattle.sites.specs.Together.{AskedWell, Brings, Unasked, Unbrought, TogetherSays, Near, Far, Truly}
+use Rattle.sites.specs.Together.{AskedWell, Unasked, Unbrought, TogetherSays, Truly}
 use Rattle.sites.specs.declared.together.Outcome.{Outcome}
 use Rattle.sites.specs.declared.together.Outcome.TheVariants.{Brought, More, Refused}
 

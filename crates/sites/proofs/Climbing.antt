@@ -1,12 +1,12 @@
 -- Letters of one rung after the other: what the first that can be read tells, and when it is the true difference.
-use Rattle.std.proofs.Common.{◌≡◌, ℕ, zero, suc, ◌+◌, ◌-◌, ◌*◌, ◌<◌, ◌≤◌, true, false, ◌⊎◌, List, [], ◌∷◌, length, get_or, drop, sym, refl, ap, ◌∙◌, subst, inl, inr, arith}
+use Rattle.std.proofs.Common.{◌≡◌, ℕ, zero, suc, ◌+◌, ◌-◌, ◌*◌, ◌<◌, ◌≤◌, true, ◌⊎◌, List, [], ◌∷◌, get_or, drop, sym, subst, inl, inr, arith}
 use Rattle.std.proofs.lemmas.List.{drop_all, drop_more}
 use Rattle.std.proofs.lemmas.Bool.Decides.{nat_tests}
 use Rattle.std.proofs.lemmas.Bool.{cases_order}
 use Rattle.field.specs.Prime.{Prime}
 use Rattle.sorted.specs.Lists.{has, rising, all_below, only, differ}
 use Rattle.sorted.proofs.Members.{has_first, has_later}
-use Rattle.letter.specs.Letter.{Letter, letter}
+use Rattle.letter.specs.Letter.{letter}
 use Rattle.explain.specs.Explanation.{Found, TooMany, these}
 use Rattle.letter.specs.declared.refusals.Refusal.{Refusal}
 use Rattle.decode.specs.Beside.{ToldBy, Unread}

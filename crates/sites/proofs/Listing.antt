@@ -1,7 +1,7 @@
 -- The lists of several sites, before and after a request.
-use Rattle.std.proofs.Common.{◌≡◌, ℕ, ◌<◌, ◌≤◌, ◌⊎◌, List, [], ◌∷◌, map, length, get_or, set, Ok, Err, vec_items, vec_len, Result, sym, refl, ap, ◌∙◌, subst, inl, inr, arith, MatchResult}
+use Rattle.std.proofs.Common.{◌≡◌, ℕ, ◌<◌, List, [], ◌∷◌, map, length, get_or, set, Ok, Err, vec_items, vec_len, Result, sym, refl, ap, ◌∙◌, subst, inr, arith, MatchResult}
 use Rattle.std.proofs.lemmas.List.{length-map, get_or-map, map-set, set-get_or}
-use Rattle.letter.specs.Desks.{desk_of, desk_size}
+use Rattle.letter.specs.Desks.{desk_of}
 use Rattle.letter.specs.Exchanges.{Done, NotDone, Free, next}
 use Rattle.letter.specs.Letter.{Deed, letter}
 use Rattle.letter.specs.declared.refusals.Refusal.{Refusal}

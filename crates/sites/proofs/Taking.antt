@@ -1,5 +1,5 @@
 -- What is taken up of a list that was read.
-use Rattle.std.proofs.Common.{◌≡◌, ℕ, ◌⊎◌, List, [], Ok, Err, Result, sym, refl, ap, ◌∙◌, subst, inl, inr, MatchResult}
+use Rattle.std.proofs.Common.{◌≡◌, ℕ, ◌⊎◌, List, Ok, Err, Result, refl, ap, ◌∙◌, subst, MatchResult}
 use Rattle.sorted.specs.Lists.{brought, without_all}
 use Rattle.letter.specs.Exchanges.{Exchanged, NotExchanged, Stopped, replacing}
 use Rattle.letter.specs.Letter.{Desk}

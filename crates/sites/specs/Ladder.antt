@@ -9,8 +9,8 @@
 --   Truthful p there here    each rung that may be taken in is not
 --   gone_of r, come_of r     the numbers gone and come of a reading
 --   Reads p there here m sent r  the letter with m values is read as r, after `sent` values were sent
-use Rattle.std.specs.Prelude.{◌≡◌, ℕ, ◌+◌, ◌-◌, ◌<◌, ◌≤◌, true, ◌⊎◌, List, [], ◌∷◌}
-use Rattle.sorted.specs.Lists.{has, only, differ}
+use Rattle.std.specs.Prelude.{◌≡◌, ℕ, ◌+◌, ◌-◌, ◌<◌, true, ◌⊎◌, List, [], ◌∷◌}
+use Rattle.sorted.specs.Lists.{has, differ}
 use Rattle.letter.specs.Letter.{letter}
 use Rattle.explain.specs.Explanation.{TooMany}
 use Rattle.decode.specs.Beside.{ToldBy}

@@ -15,7 +15,6 @@
 use Rattle.std.specs.Prelude.{◌≡◌, ℕ, ◌+◌, ◌-◌, ◌*◌, ◌<◌, ◌≤◌, true, ◌⊎◌, List}
 use Rattle.sorted.specs.Lists.{has, only, differ, brought}
 use Rattle.letter.specs.Desks.{Told}
-use Rattle.letter.specs.Exchanges.{Halts}
 use Rattle.letter.specs.Letter.{Desk, letter}
 use Rattle.letter.specs.declared.refusals.Refusal.{Refusal}
 use Rattle.letter.specs.declared.refusals.Refusal.TheVariants.{Memory}

@@ -5,11 +5,11 @@ use Rattle.capi.proofs.calls.ridgeweek_read.Goals as goal
 
 pub code_done-requires : goal.code_done-requires
 code_done-requires c =
-    told_few c.args.note.now c.args.here.now c.args.out.now c.args.d c.in-These.went c.in-These.branch _ c.in-These.ensures
+    told_few c.args.note.now c.args.here.now c.args.out.now c.args.d c.in-These.went c.in-These.came _ c.in-These.ensures
 
 pub returns-in-These : goal.returns-in-These
 returns-in-These c =
-    reads_by c.args.note.now c.args.here.now c.args.out.now c.args.d _ (These c.in-These.went c.in-These.branch) _ c.code_done.ensures c.in-These.ensures
+    reads_by c.args.note.now c.args.here.now c.args.out.now c.args.d _ (These c.in-These.went c.in-These.came) _ c.code_done.ensures c.in-These.ensures
 
 pub returns-in-Refused : goal.returns-in-Refused
 returns-in-Refused c =

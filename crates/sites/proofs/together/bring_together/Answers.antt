@@ -1,4 +1,4 @@
-use Rattle.std.proofs.Common.{◌≡◌, Option, sym, refl, ap, ◌∙◌, subst, inl, inr}
+use Rattle.std.proofs.Common.{Option, refl, ap, ◌∙◌, subst, inl, inr}
 use Rattle.sorted.specs.Lists.{brought}
 use Rattle.letter.specs.Desks.{desk_of, desk_size}
 use Rattle.letter.specs.Letter.{letter}

@@ -1,9 +1,9 @@
-use Rattle.std.proofs.Common.{◌≡◌, ◌<◌, set, vec_len, sym, refl, ap, ◌∙◌, subst, inl, inr, arith, lit<}
+use Rattle.std.proofs.Common.{◌<◌, set, vec_len, refl, ap, ◌∙◌, inl, inr, arith}
 use Rattle.sites.specs.Asking.{AskSays, Unasked}
 use Rattle.sites.specs.Ladder.{gone_of, come_of}
-use Rattle.sites.specs.Network.{Absent, list_at, lists_of}
+use Rattle.sites.specs.Network.{Absent, lists_of}
 use Rattle.sites.specs.Taking.{taken_up}
-use Rattle.sites.specs.declared.network.asking.Answer.TheVariants.{Together, More, Refused}
+use Rattle.sites.specs.declared.network.asking.Answer.TheVariants.{Together, More}
 use Rattle.sites.proofs.Answering.{Met, unasked_truly, together_truly, more_truly, unmet_truly, answers_at, unanswered_at, unmet_at}
 use Rattle.sites.proofs.Listing.{sites_count, list_here, lists_set, lists_kept, right}
 use Rattle.sites.proofs.network.Sites.ask.Goals as goal

@@ -1,4 +1,4 @@
-use Rattle.std.proofs.Common.{◌≡◌, sym, refl, inl, arith}
+use Rattle.std.proofs.Common.{refl, inl, arith}
 use Rattle.letter.specs.Letter.{goes}
 use Rattle.sites.specs.Network.{Absent}
 use Rattle.sites.proofs.Listing.{sites_count, right, passed}

@@ -1,4 +1,4 @@
-use Rattle.std.proofs.Common.{◌≡◌, sym, ◌∙◌}
+use Rattle.std.proofs.Common.{◌∙◌}
 use Rattle.sites.proofs.Listing.{sites_count}
 use Rattle.sites.proofs.network.Sites.len.Goals as goal
 

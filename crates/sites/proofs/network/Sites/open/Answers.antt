@@ -1,5 +1,4 @@
-use Rattle.std.proofs.Common.{◌≡◌, ◌+◌, ◌<◌, ◌≤◌, ◌⊎◌, List, [], ◌∷◌, ◌++◌, map, replicate, vec_items, sym, refl, ap, ◌∙◌, inl, inr, arith, lit<}
-use mathlib.Core.List.{not-mem-nil}
+use Rattle.std.proofs.Common.{◌≡◌, ◌+◌, ◌<◌, ◌≤◌, ◌⊎◌, [], ◌∷◌, ◌++◌, map, replicate, vec_items, refl, ap, ◌∙◌, inl, inr, arith}
 use Rattle.std.proofs.lemmas.List.{map_push, replicate_more}
 use Rattle.sites.specs.Network.{NotOpened, lists_of}
 use Rattle.sites.specs.Site.{site_list}
@@ -12,12 +11,6 @@ returns-then-n-lt-FEWEST g c = inl ((refl, refl), either c.then-n-lt-FEWEST.eith
     either : (c.args.n < 2) ⊎ ((2 ≤ c.args.n) × (40 < c.args.n)) → (c.args.n < 2) ⊎ (40 < c.args.n)
     either (inl few) = inl few
     either (inr many) = inr many.1
-
-pub drop-sites-requires : goal.drop-sites-requires
-drop-sites-requires g c = ((lit< tt, tt), ((λ a h. absurd (not-mem-nil h)), (λ a h. absurd (not-mem-nil h))))
-
-pub drop-sites-requires-in_default : goal.drop-sites-requires-in_default
-drop-sites-requires-in_default g c = ((lit< tt, tt), ((λ a h. absurd (not-mem-nil h)), (λ a h. absurd (not-mem-nil h))))
 
 pub returns-in-Err : goal.returns-in-Err
 unfolding NotOpened
@@ -43,8 +36,8 @@ loop-k-preserved g c =
       ap (map (λ x. site_list x)) items
           ∙ map_push (λ x. site_list x) (vec_items c.loop-k.sites) c.in-Ok.site
           ∙ ap (λ ls. ls ++ site_list c.in-Ok.site ∷ []) inv.0
-          ∙ ap (λ ns. replicate c.loop-k.-k [] ++ ns ∷ []) fresh.1
-          ∙ replicate_more c.loop-k.-k [],
+          ∙ ap (λ ns. replicate c.loop-k._k [] ++ ns ∷ []) fresh.1
+          ∙ replicate_more c.loop-k._k [],
       pushed.len ∙ ap (λ n. n + 1) inv.1,
       (λ some. fresh.0),
     )
@@ -52,13 +45,13 @@ loop-k-preserved g c =
 pub invariant_of-result : goal.invariant_of-result
 invariant_of-result g c =
     let inv = c.loop-k.invariant in
-    (omega (arith, inv.1, c.if-n-lt-FEWEST.false), (omega (arith, inv.1, c.if-n-gt-MOST.false), tt))
+    record { several = omega (arith, inv.1, c.if-n-lt-FEWEST.false); few = omega (arith, inv.1, c.if-n-gt-MOST.false) }
 
 pub returns : goal.returns
 unfolding lists_of
 returns g c =
     let inv = c.loop-k.invariant in
-    let ended : c.loop-k.-k ≡ c.args.n = omega arith in
+    let ended : c.loop-k._k ≡ c.args.n = omega arith in
     record {
       several = omega (arith, c.if-n-lt-FEWEST.false);
       few = omega (arith, c.if-n-gt-MOST.false);

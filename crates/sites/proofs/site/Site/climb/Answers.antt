@@ -1,4 +1,4 @@
-use Rattle.std.proofs.Common.{◌≡◌, ℕ, ◌-◌, get_or, Option, sym, refl, subst, arith}
+use Rattle.std.proofs.Common.{◌-◌, get_or, Option, refl, subst, arith}
 use Rattle.letter.specs.Desks.{desk_size}
 use Rattle.letter.specs.Letter.{letter}
 use Rattle.letter.specs.Letters.{letter_of}
@@ -10,9 +10,9 @@ use Rattle.sites.proofs.Bringing.{letter_size, read_well}
 use Rattle.sites.proofs.Climbing.{rung_small, rung_unread, climbing_more, climbing_read, climbing_end}
 use Rattle.sites.proofs.site.Site.climb.Goals as goal
 
-pub unreachable_requires_in_rest_difference_beside :
+pub unreachable-requires-in_default-difference_beside :
     goal.unreachable-requires-in_default-difference_beside
-unreachable_requires_in_rest_difference_beside g c =
+unreachable-requires-in_default-difference_beside g c =
     let m = get_or rungs c.loop-m.m-index 0 in
     let fit = rung_small c.loop-m.m-index (omega arith) in
     rung_unread m c.in-Ok.letter.values.len (desk_size c.args.self.now.desk) _ fit.0 fit.1

@@ -1,4 +1,4 @@
-use Rattle.std.proofs.Common.{◌≡◌, ℕ, subst, MatchResult}
+use Rattle.std.proofs.Common.{ℕ, subst, MatchResult}
 use Rattle.letter.specs.Desks.{desk_of, desk_size}
 use Rattle.letter.specs.Exchanges.{Done, NotDone}
 use Rattle.letter.specs.Letter.{goes}
