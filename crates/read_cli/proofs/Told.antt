@@ -1,5 +1,5 @@
 -- The reader's answer says that what it tells stands in the row.
-use Rattle.std.proofs.Common.{◌≡◌, ℕ, ◌+◌, List, ◌++◌, length, drop, ap, arith}
+use Rattle.std.proofs.Common.{ℕ, ◌+◌, List, ◌++◌, length, drop, ap, arith}
 use Rattle.std.proofs.lemmas.List.{length-append}
 use Rattle.decode.specs.Entry.{ReadSays}
 use Rattle.decode.specs.declared.entry.Reply.{Reply}

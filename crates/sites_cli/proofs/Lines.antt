@@ -1,10 +1,9 @@
 -- Before sites are opened there are no lists.
-use Rattle.std.proofs.Common.{◌≡◌, ℕ, ◌<◌, ◌≤◌, ◌⊎◌, List, [], length, Some, None, Option, sym, refl, ap, ◌∙◌, subst, inl, inr, arith}
+use Rattle.std.proofs.Common.{◌≡◌, ℕ, length, None, Option, refl, ap, inl, arith}
 use Rattle.letter.specs.Letter.{Deed}
-use Rattle.letter.specs.declared.refusals.Refusal.{Refusal}
 use Rattle.letter.specs.declared.refusals.Refusal.TheVariants.{Site}
 use Rattle.sites.specs.Asking.{AskSays, AskTruly, Unasked}
-use Rattle.sites.specs.Network.{Absent, NotPassed, lists_of}
+use Rattle.sites.specs.Network.{Absent, NotPassed}
 use Rattle.sites.specs.declared.ladder.Way.{Way}
 use Rattle.sites.specs.declared.network.Sites.{Sites}
 use Rattle.sites.specs.declared.network.asking.Answer.TheVariants.{Refused}

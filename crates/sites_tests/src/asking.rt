@@ -151,8 +151,8 @@ fn full_lists(rt: HostRuntime) -> Result<(), Fail> {
     let Answer::Together(reading) = sites.ask(0, 1, Way::Take, heap) else {
         return Err(Fail::new("nothing is told"));
     };
-    assert_eq!(rt; reading.difference.gone(), &[0]);
-    assert_eq!(rt; reading.difference.come(), &[60000]);
+    assert_eq!(rt; reading.difference.gone(), [0].as_slice());
+    assert_eq!(rt; reading.difference.come(), [60000].as_slice());
     assert_eq!(rt; sites.list(0)?, sites.list(1)?);
     Ok(())
 }

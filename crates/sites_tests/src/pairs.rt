@@ -53,7 +53,7 @@ fn more_changes_nothing(rt: HostRuntime) -> Result<(), Fail> {
     let Outcome::More = bring_together(&mut here, &there, 3, 2, heap) else {
         return Err(Fail::new("not more"));
     };
-    assert_eq!(rt; here.list(), &[5, 9, 20]);
+    assert_eq!(rt; here.list(), [5, 9, 20].as_slice());
     Ok(())
 }
 
@@ -89,7 +89,8 @@ fn refusals(rt: HostRuntime) -> Result<(), Fail> {
         bring_together(&mut empty, &there, 2, 2, heap),
         Refusal::Comes(65534),
     )?;
-    assert_eq!(rt; empty.list(), &[]);
-    assert_eq!(rt; here.list(), &[5, 9, 20]);
+    let none: [u64; 0] = [];
+    assert_eq!(rt; empty.list(), none.as_slice());
+    assert_eq!(rt; here.list(), [5, 9, 20].as_slice());
     Ok(())
 }

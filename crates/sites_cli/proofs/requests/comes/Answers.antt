@@ -1,4 +1,4 @@
-use Rattle.std.proofs.Common.{◌≡◌, Err, Option, sym, subst, MatchResult}
+use Rattle.std.proofs.Common.{Err, Option, sym, subst, MatchResult}
 use Rattle.std.proofs.lemmas.Result.{IfOk-weaker}
 use Rattle.letter.specs.declared.refusals.Refusal.TheVariants.{Site}
 use Rattle.letter.specs.Letter.{comes}

@@ -1,7 +1,6 @@
-use Rattle.std.proofs.Common.{◌≡◌, ◌<◌, length, string_bytes, Option, sym, ap, ◌∙◌, subst, inl, inr}
+use Rattle.std.proofs.Common.{string_bytes, Option, sym, ap, ◌∙◌, subst, inl, inr}
 use Rattle.std.proofs.lemmas.Result.{IfOk-weaker}
 use Rattle.lines.specs.Text.{list_text}
-use Rattle.sites.specs.Network.{Absent, list_at}
 use Rattle.sites.specs.declared.network.Sites.{Sites}
 use Rattle.sites_cli.specs.Told.{ListTold, lists_in}
 use Rattle.sites_cli.proofs.Lines.{none_absent}

@@ -1,4 +1,4 @@
-use Rattle.std.proofs.Common.{◌≡◌, refl, inl, inr}
+use Rattle.std.proofs.Common.{refl, inl, inr}
 use Rattle.std.proofs.lemmas.Result.{IfOk-weaker}
 use Rattle.sites_cli.specs.Told.{OpenTold, lists_in}
 use Rattle.sites_cli.proofs.requests.open.Goals as goal
