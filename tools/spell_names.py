@@ -3,7 +3,7 @@
 
 A dash becomes an underscore, and in a name that begins with a capital each part gets one: letters-right is letters_right, and Letters-right is
 LettersRight. Names that the check makes (steps and goals) are not in the table, and neither are functions of src/, strings, inputs and outputs.
-After a dot only the names of fields are respelled, and not those of a branch `w`, which the check makes.
+A name after a dot is respelled too, if it is in the table: two that the check makes, `gone-is` and `come-is` of a branch, are to be put back by hand.
 """
 import glob
 import re
@@ -91,18 +91,10 @@ words-after words-blanks words-front words-none words-spaced words-text written-
 zero-by zero-difference zero-factor zero-only zero-product zero-to-itself
 """.split()
 
-# Those of them that are fields of a record.
-FIELDS = """
-come-below come-count come-covers come-is come-not come-off come-passed come-rises come-rising come-room come-roots come-small gone-below gone-count
-gone-covers gone-here gone-is gone-passed gone-rises gone-rising gone-room gone-roots gone-small here-below here-is here-rising in-after-out in-again
-is-power letter-is letter-now list-is lists-are next-is note-is off-points out-after-in out-again there-below there-is there-rising values-is where-is
-xs-below xs-rising ys-below ys-rising zero-apart zero-to-itself
-""".split()
-
 # Names whose plain respelling is taken by another name.
 OTHERWISE = {"Letter-of": "IsLetterOf"}
 
-WORD = re.compile(r"(?<![\w'₀-₉-])(\.?)([A-Za-z][\w'₀-₉-]*)")
+WORD = re.compile(r"(?<![\w'₀-₉-])[A-Za-z][\w'₀-₉-]*")
 STRING = re.compile(r'"(?:[^"\\]|\\.)*"')
 
 
@@ -116,17 +108,7 @@ TABLE = {name: respelled(name) for name in NAMES} | OTHERWISE
 
 
 def turned(text):
-    def word(m):
-        name = m[2]
-        if name not in TABLE:
-            return m[0]
-        before = text[: m.start()]
-        if m[1] and not (before and before[-1] in " (\n"):
-            if name not in FIELDS or re.search(r"(?<![\w.'-])w$", before):
-                return m[0]
-        return m[1] + TABLE[name]
-
-    return WORD.sub(word, text)
+    return WORD.sub(lambda m: TABLE.get(m[0], m[0]), text)
 
 
 def turned_code(text):
