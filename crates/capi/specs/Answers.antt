@@ -8,7 +8,7 @@
 --                  or the place, where places of 2^32 - 1 and more are told as 2^32 - 1
 --   Coded r says   the number r stands for an answer of which `says` holds: the form of every call's contract
 --   Plain a        counts below 65536, a refusal's number from 1 to 8, and a place below 2^32 - 1
---   CodesDiffer   plain answers with the same number are the same
+--   CodesDiffer    plain answers with the same number are the same
 use Rattle.std.specs.Prelude.{◌≡◌, ℕ, ◌+◌, ◌*◌, ◌<◌, ◌≤◌, min}
 use Rattle.letter.specs.Refusals.{number, place}
 use Rattle.letter.specs.declared.refusals.Refusal.{Refusal}

@@ -7,7 +7,7 @@
 --   Lent note list         the letter is sound, and the list counts what the letter counts
 --   UpToDate note list     the list rises, is below the points, and the letter is its letter
 --   Came, Went             what a deed does: the list in place, the letter by one product at each point
---   DueComes, DueGoes    why it is not done, the first reason that applies
+--   DueComes, DueGoes      why it is not done, the first reason that applies
 --   NotCame, NotWent       it is not done, and both slices are as they were
 --   Comes, Goes            the answer to a deed, and what it leaves
 use Rattle.std.specs.Prelude.{◌≡◌, ℕ, ◌+◌, ◌-◌, ◌<◌, ◌≤◌, true, false, ◌⊎◌, List, ◌∷◌, ◌++◌, length, drop, ◌≢◌, slice_index, slice_index_or}

@@ -1,7 +1,7 @@
 -- What a letter of m values, read with the allowance d beside a desk that keeps k values of its list, is found to say.
 -- Assumes nothing: these are definitions.
 --
---   ToldBy p m d l list gone come    gone and come, at most d numbers together, explain the letter, and nothing else does
+--   ToldBy p m d l list gone come     gone and come, at most d numbers together, explain the letter, and nothing else does
 --   Differs p m d l list f            the same of a difference f, or that there is no explanation of at most d numbers
 --   Read p m d l list k f             the desk keeps enough values and d is at most m, and then the above
 --   Unread m d k e                    why the letter is not read: it has more values than are kept, or d is above m

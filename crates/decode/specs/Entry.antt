@@ -4,9 +4,9 @@
 --   Tells f out r out₁     the reply r and the row out₁ tell what was found, if anything, in the row out
 --   Sound p note here out d   letter, list, allowance and row pass all checks
 --   Due p note here out d e   the refusal e is the first that applies
---   TheseSay ..           the numbers gone and come that are told: they explain the letter, and nothing else does
---   ReadSays ..           the answer in full; a refusal leaves the row as it was
---   SoundBeside, DueBeside, BesideSays   the same beside a desk's own list
+--   TheseSay ..            the numbers gone and come that are told: they explain the letter, and nothing else does
+--   ReadSays ..            the answer in full; a refusal leaves the row as it was
+--   SoundBeside, DueBeside, BesideSays      the same beside a desk's own list
 use Rattle.std.specs.Prelude.{◌≡◌, ℕ, ◌+◌, ◌-◌, ◌<◌, ◌≤◌, ◌⊎◌, List, ◌++◌, length, drop, Some, None, Option, slice_index, slice_index_or}
 use Rattle.letter.specs.Desks.{Told}
 use Rattle.letter.specs.Refusals.{number, place}

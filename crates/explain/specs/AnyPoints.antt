@@ -2,12 +2,12 @@
 -- values, the m largest numbers below p, are one case. Assumes nothing: these are definitions and types.
 --
 --   Off p zs ns                    the numbers ns are below p and none of them is a point of zs
---   ExplainsAt p zs l here g c    g gone and c come explain the letter l, with values at the points zs, beside here
---   IsLetterOf p zs ns l            l is the letter of the list ns at the points zs
---   OneExplanationAt             two explanations of at most 2 k + 1 numbers together, k the number of points, are one
---   TrueDifferenceAt             what differs between two lists explains the letter of one beside the other
---   SameValuesAt                 lists of one length with the same values are equal or differ in more than 2 k + 1 numbers
---   BroughtTogetherAt            reading a letter finds what differs, or tells that it is too many
+--   ExplainsAt p zs l here g c     g gone and c come explain the letter l, with values at the points zs, beside here
+--   IsLetterOf p zs ns l           l is the letter of the list ns at the points zs
+--   OneExplanationAt               two explanations of at most 2 k + 1 numbers together, k the number of points, are one
+--   TrueDifferenceAt               what differs between two lists explains the letter of one beside the other
+--   SameValuesAt                   lists of one length with the same values are equal or differ in more than 2 k + 1 numbers
+--   BroughtTogetherAt              reading a letter finds what differs, or tells that it is too many
 use Rattle.std.specs.Prelude.{◌≡◌, ℕ, ◌+◌, ◌*◌, ◌<◌, ◌≤◌, true, ◌⊎◌, List, length}
 use Rattle.field.specs.Prime.{Prime}
 use Rattle.field.specs.Polynomial.{Distinct, Below}

@@ -7,7 +7,7 @@
 --   none_in ns ms                    no number of ns is in ms
 --   Explains p m l here gone come    gone and come explain the letter l, of m values, beside the list here
 --   Found p m d l here gone come     they explain it, and are at most d numbers together
---   TooMany p m d l here            nothing of at most d numbers explains it
+--   TooMany p m d l here             nothing of at most d numbers explains it
 use Rattle.std.specs.Prelude.{◌≡◌, ℕ, ◌+◌, ◌-◌, ◌*◌, ◌%◌, ◌≤◌, Bool, true, false, not, ◌&&◌, List, [], ◌∷◌, length, ◌==◌}
 use Rattle.field.specs.Polynomial.{value}
 use Rattle.sorted.specs.Lists.{has, rising, all_below}

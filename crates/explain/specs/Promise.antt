@@ -1,12 +1,12 @@
 -- What a letter can and cannot tell: each a statement that proofs/ proves. Assumes nothing: these are types.
 -- Letters have m values, counted modulo a prime p; lists are rising, with numbers below p - m.
 --
---   OneExplanation             two explanations of at most 2 m numbers together are one
---   TrueDifferenceExplains    what differs between two lists explains the letter of one beside the other
---   SameLetter                 two lists with the same letter are equal, or differ in more than 2 m numbers
---   BroughtTogether            reading a letter finds exactly what differs, up to d numbers, and tells from d + 1 up to
+--   OneExplanation              two explanations of at most 2 m numbers together are one
+--   TrueDifferenceExplains      what differs between two lists explains the letter of one beside the other
+--   SameLetter                  two lists with the same letter are equal, or differ in more than 2 m numbers
+--   BroughtTogether             reading a letter finds exactly what differs, up to d numbers, and tells from d + 1 up to
 --                               2 m - d that they are too many
---   SomeLettersAlike          of more lists than there are rows of m values two have the same row, however it is made
+--   SomeLettersAlike            of more lists than there are rows of m values two have the same row, however it is made
 --   powers p m                  p to the m: how many rows of m values there are
 --   Parity                      the counts of a letter and a list decide whether what differs is even or odd
 --   ..-parity                   the statement with its bound 2 m raised to 2 m + 1, which parity gives

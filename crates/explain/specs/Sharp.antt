@@ -4,8 +4,8 @@
 --   Alike p m xs ys                       two lists with the same letter of m values that differ in 2 m + 2 numbers
 --   Amiss p m d there here gone come      the letter of there beside here is explained by at most d numbers that do not
 --                                         make there of here, where 2 m + 2 - d numbers differ
---   BoundReached                         of more than p to the m lists of m + 1 numbers each two are alike
---   ListsAlike, LettersAmiss            tables of examples
+--   BoundReached                          of more than p to the m lists of m + 1 numbers each two are alike
+--   ListsAlike, LettersAmiss              tables of examples
 use Rattle.std.specs.Prelude.{◌≡◌, ℕ, ◌+◌, ◌-◌, ◌*◌, ◌<◌, ◌≤◌, true, List, [], ◌∷◌, length, slice_index_or}
 use Rattle.field.specs.Prime.{Prime}
 use Rattle.sorted.specs.Lists.{rising, all_below, differ, brought}

@@ -1,15 +1,26 @@
 -- What can stop an exchange of numbers gone, which are on the list, for numbers come, which are not.
-use Rattle.std.proofs.Common.{◌≡◌, ℕ, true, false, List, [], ◌∷◌, ◌++◌, subst, inl, inr, arith}
+use Rattle.std.proofs.Common.{◌≡◌, ℕ, ◌+◌, ◌-◌, ◌<◌, ◌≤◌, ◌⊎◌, true, false, List, [], ◌∷◌, ◌++◌, length, subst, inl, inr, arith}
 use Rattle.std.proofs.lemmas.Bool.Decides.{nat_tests}
 use Rattle.sorted.specs.Lists.{has, rising, put, without, without_all}
 use Rattle.sorted.proofs.Members.{has_first, has_later, rising_tail, rising_over}
 use Rattle.sorted.proofs.Insertion.{put_has, put_rising, put_length_le, without_has, without_rising}
 use Rattle.sorted.proofs.Union.{without_all_has, without_all_rising}
-use Rattle.letter.specs.Exchanges.{final, Stopped, Halts, deeds, replacing}
+use Rattle.letter.specs.Desks.{Told}
+use Rattle.letter.specs.Exchanges.{final, Stopped, deeds, replacing}
 use Rattle.letter.specs.Letter.{Deed}
+use Rattle.letter.specs.Refusals.{capacity}
 use Rattle.letter.specs.declared.desks.Direction.TheVariants.{Come, Go}
 use Rattle.letter.specs.declared.refusals.Refusal.{Refusal}
+use Rattle.letter.specs.declared.refusals.Refusal.TheVariants.{Memory}
 use Rattle.letter.proofs.Exchanges.{final_go}
+
+-- why the numbers come, none of which is on the list ns, cannot all come: for want of memory; since one is not below p - m; or
+-- since there would be more than the capacity
+abbrev pub Halts : ℕ → ℕ → List ℕ → List ℕ → Refusal → Type 0
+Halts p m ns come e =
+    (e ≡ Memory)
+    ⊎ (((n : ℕ) × (Told 5 n e × (has come n ≡ true) × (p - m ≤ n)))
+    ⊎ (Told 7 capacity e × (capacity < length ns + length come)))
 
 -- numbers that are there can all go
 pub going_stop : (p m : ℕ) (gone : List ℕ) (ys : List Deed) (ms : List ℕ) (e : Refusal)

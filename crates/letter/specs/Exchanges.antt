@@ -9,14 +9,12 @@
 --   deed w n               the number n comes, or goes
 --   deeds w ns             each number of ns comes, or goes
 --   replacing gone come    the numbers gone go, and then the numbers come come
---   Halts p m ns come e    why numbers come that are not on the list ns cannot all come: for want of memory; since one is not
---                          below p - m; or since there would be more than the capacity
 --   Done, NotDone          one deed is done, or it is not
 --   AllDone                several deeds are done
 --   Exchanged, NotExchanged   a desk after the numbers gone went and the numbers come came, or why nothing changed
-use Rattle.std.specs.Prelude.{◌≡◌, ℕ, ◌+◌, ◌-◌, ◌*◌, ◌%◌, ◌^◌, ◌<◌, ◌≤◌, true, false, ◌⊎◌, List, [], ◌∷◌, ◌++◌, length}
+use Rattle.std.specs.Prelude.{◌≡◌, ℕ, ◌+◌, ◌-◌, ◌*◌, ◌%◌, ◌^◌, ◌<◌, true, false, ◌⊎◌, List, [], ◌∷◌, ◌++◌, length}
 use Rattle.sorted.specs.Lists.{has, put, without, brought}
-use Rattle.letter.specs.Desks.{Stops, Told}
+use Rattle.letter.specs.Desks.{Stops}
 use Rattle.letter.specs.Letter.{Desk as Held, Deed, comes, goes}
 use Rattle.letter.specs.Refusals.{capacity}
 use Rattle.letter.specs.declared.desks.Direction.{Direction}
@@ -54,12 +52,6 @@ deeds w (n ∷ ns) = deed w n ∷ deeds w ns
 
 unfoldable pub replacing : List ℕ → List ℕ → List Deed
 replacing gone come = deeds Go gone ++ deeds Come come
-
-abbrev pub Halts : ℕ → ℕ → List ℕ → List ℕ → Refusal → Type 0
-Halts p m ns come e =
-    (e ≡ Memory)
-    ⊎ (((n : ℕ) × (Told 5 n e × (has come n ≡ true) × (p - m ≤ n)))
-    ⊎ (Told 7 capacity e × (capacity < length ns + length come)))
 
 pub record Done (p m : ℕ) (x : Deed) (before after : List ℕ) (start finish : ℕ) : Type 0 where
   pub free : Free p m before x

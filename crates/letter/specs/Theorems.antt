@@ -1,10 +1,10 @@
 -- What letters promise: each a statement that proofs/Right.antt proves. Assumes nothing: these are types.
 --
---   LettersRight     after any deeds a desk's letter is the letter of its list, which is rising and below p - m
---   NeverNothing     no value of a letter is 0
---   ValuesMultiply   the value of two lists put one after the other is the product of their values
---   OrderFree        so the order in which they are put does not matter
---   PointsApart      the points are distinct and below p, and no number below p - m is one
+--   LettersRight      after any deeds a desk's letter is the letter of its list, which is rising and below p - m
+--   NeverNothing      no value of a letter is 0
+--   ValuesMultiply    the value of two lists put one after the other is the product of their values
+--   OrderFree         so the order in which they are put does not matter
+--   PointsApart       the points are distinct and below p, and no number below p - m is one
 --   Worked            the values of some lists at the points 65536, 65535 and 65534
 use Rattle.std.specs.Prelude.{◌≡◌, ℕ, ◌-◌, ◌*◌, ◌%◌, ◌<◌, ◌≤◌, true, List, [], ◌∷◌, ◌++◌, ◌≢◌, slice_index}
 use Rattle.field.specs.Prime.{Prime}

@@ -10,12 +10,11 @@ use Rattle.sorted.proofs.Difference.{only_has}
 use Rattle.sorted.proofs.Distance.{brought_there}
 use Rattle.sorted.proofs.Union.{put_all_has, put_all_rising}
 use Rattle.letter.specs.Desks.{Told}
-use Rattle.letter.specs.Exchanges.{Halts}
 use Rattle.letter.specs.Letter.{letter}
 use Rattle.letter.specs.Refusals.{capacity}
 use Rattle.letter.specs.declared.refusals.Refusal.{Refusal}
 use Rattle.letter.specs.declared.refusals.Refusal.TheVariants.{Memory}
-use Rattle.letter.proofs.Halting.{replacing_stop}
+use Rattle.letter.proofs.Halting.{Halts, replacing_stop}
 use Rattle.letter.proofs.Keeping.{up_to_date}
 use Rattle.explain.specs.Explanation.{Explains}
 use Rattle.explain.proofs.Subsets.{all_in_has, none_in_has}

@@ -11,7 +11,7 @@ use Rattle.sorted.proofs.Distance.{only_lengths, without_all_only, brought_there
 use Rattle.letter.specs.Desks.{Told, desk_of, desk_size}
 use Rattle.letter.specs.declared.desks.Desk.{Desk as Kept}
 use Rattle.letter.proofs.Keeping.{up_to_date}
-use Rattle.letter.specs.Exchanges.{Stopped, Halts, replacing}
+use Rattle.letter.specs.Exchanges.{Stopped, replacing}
 use Rattle.letter.specs.Letter.{Desk, Letter, letter, points}
 use Rattle.letter.specs.Letters.{letter_of}
 use Rattle.letter.specs.declared.letters.Letter.{Letter as Sent}
@@ -19,7 +19,7 @@ use Rattle.letter.proofs.Pointwise.{length_values}
 use Rattle.letter.proofs.Points.{length_points}
 use Rattle.letter.specs.declared.refusals.Refusal.{Refusal}
 use Rattle.letter.specs.declared.refusals.Refusal.TheVariants.{Memory}
-use Rattle.letter.proofs.Halting.{replacing_stop}
+use Rattle.letter.proofs.Halting.{Halts, replacing_stop}
 use Rattle.explain.specs.Explanation.{Explains, Found, TooMany, these}
 use Rattle.explain.proofs.Reading.{true_difference_explains, read_too_many}
 use Rattle.explain.proofs.Subsets.{all_in_has, none_in_has}

@@ -6,10 +6,10 @@
 --                           told with 5; or lists put together would have more numbers than a list may have, told with 7
 --   Unmet ..                a letter was read, and what it tells is not taken up
 --   Unasked ..              why nothing is asked, or nothing is taken up; site i comes first, then site j
---   AskSays ..             what is told, and what the lists are afterwards
+--   AskSays ..              what is told, and what the lists are afterwards
 --   met w there here        what the list here is to be: the one there, or both put together
 --   Near, Far               what is told where at most 63 numbers differ, and where more do, if no letter is taken in
---   AskTruly ..            the promise. Of at most 63 differences all are told and no others, and the list here is what it is to
+--   AskTruly ..             the promise. Of at most 63 differences all are told and no others, and the list here is what it is to
 --                           be, if each rung that may be taken in is not; of up to 6 differences without any condition.
 --                           Of more, under that condition, nothing is told. No other list changes
 use Rattle.std.specs.Prelude.{◌≡◌, ℕ, ◌+◌, ◌-◌, ◌<◌, ◌≤◌, true, ◌⊎◌, List, length, ◌≢◌, slice_set}

@@ -3,7 +3,7 @@
 -- point may be taken for the difference. Assumes nothing: these are definitions.
 --
 --   rungs                    how many values letters are asked for with, one after the other
---   SaysMore p there here m     the letter of the list there with m values, read beside the list here, tells that more differ
+--   SaysMore p there here m      the letter of the list there with m values, read beside the list here, tells that more differ
 --   Answers p there here ms sent r   of the rungs ms the first that does not say so is read as r; `sent` values were sent before
 --   Unanswered p there here ms   all rungs of ms say so
 --   Truthful p there here    each rung that may be taken in is not

@@ -2,12 +2,12 @@
 -- over. There keeps k values and here j; a desk is a list with its letter, after any deeds.
 -- Assumes nothing: these are definitions.
 --
---   AskedWell m d k j         both desks keep m values, and d is at most m
+--   AskedWell m d k j          both desks keep m values, and d is at most m
 --   Brings ..                  gone and come are the only explanation of the letter with at most d numbers, and the list here is
 --                              made of them
 --   Unasked m d k j e          a desk keeps fewer values than m, or d is above m
 --   Unbrought ..               a letter was read, and the numbers that it tells cannot all come
---   TogetherSays ..           what is told, and what the desk here holds afterwards
+--   TogetherSays ..            what is told, and what the desk here holds afterwards
 --   Near, Far                  what cannot be told, where at most d numbers differ, and where more do
 --   Truly ..                   the promise: of at most d differences all are found and no others, and the list here is then the
 --                              one there; of more, up to 2 m + 1 - d, it is told that they are more. Between desks that

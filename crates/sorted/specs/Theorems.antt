@@ -1,7 +1,7 @@
 -- The laws of lists by rising number. The first three and the last are each the contract of a function of `laws`.
--- DifferencesDo     what differs, taken out and put in, makes one list of the other
+-- DifferencesDo      what differs, taken out and put in, makes one list of the other
 -- Triangle           from one list to another it is no further than by way of a third
--- SameMembers       two rising lists with the same members are equal
+-- SameMembers        two rising lists with the same members are equal
 -- Insertion          what `put` does
 -- Removal            what `without` does
 -- Undoing            putting in and taking out one number
