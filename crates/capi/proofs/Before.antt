@@ -29,8 +29,8 @@ module _ (note list : List ℕ) (l : Letter 65537) (read : LetterRead 65537 note
         values = ap (λ (t : Said). t.at) read.says;
       }
 
-  pub not_lent : (i : ℕ) → Miscounts list c i → NotLent note list 2 i
-  not_lent i mis = inr (refl, read.sound, subst (λ (t : ℕ). Miscounts list t i) (c-is ∙ count_read) mis)
+  pub not_lent : (k i : ℕ) → (k ≡ 2) × Miscounts list c i → NotLent note list k i
+  not_lent k i mis = inr (mis.0, read.sound, subst (λ (t : ℕ). Miscounts list t i) (c-is ∙ count_read) mis.1)
 
 -- the part that is searched is the list
 module _ (note list : List ℕ) (l : Letter 65537) (held : Held note list l) (n k at : ℕ) (k-is : k ≡ l.count) where

@@ -1,5 +1,5 @@
 -- From what the crates below answer to what is told by one number.
-use Rattle.std.proofs.Common.{◌≡◌, ℕ, ◌+◌, ◌<◌, ◌≤◌, List, ◌∷◌, ◌++◌, length, get_or, drop, refl, ap, ◌∙◌, inl, inr, arith}
+use Rattle.std.proofs.Common.{◌≡◌, ℕ, ◌+◌, ◌<◌, ◌≤◌, List, ◌∷◌, ◌++◌, length, get_or, drop, Ok, Err, Result, refl, ap, ◌∙◌, inl, inr, arith, MatchResult}
 use Rattle.std.proofs.lemmas.List.{length-take-le, length-drop}
 use Rattle.letter.specs.Letter.{Letter as Said, letter, points, values}
 use Rattle.letter.specs.Letters.{letter_of}
@@ -12,8 +12,8 @@ use Rattle.letter.specs.declared.refusals.Refusal.{Refusal}
 use Rattle.explain.specs.Explanation.{Found, these}
 use Rattle.decode.specs.Entry.{Sound, TheseSay, ReadSays}
 use Rattle.decode.specs.declared.entry.Reply.{Reply}
-use Rattle.capi.specs.Answers.{Coded, done, code, told, replied}
-use Rattle.capi.specs.Calls.{Due, Reads, Writes}
+use Rattle.capi.specs.Answers.{Coded, code, replied}
+use Rattle.capi.specs.Calls.{Due, NotWritten, Reads, Written}
 
 found_few : (p m d : ℕ) (l : Said) (here gone come : List ℕ) → Found p m d l here gone come → length gone + length come ≤ d
 found_few p m d l here gone come (these why few) = few
@@ -36,61 +36,40 @@ pub reads_by : (note here out : List ℕ) (d r : ℕ) (reply : Reply) (out₁ : 
 reads_by note here out d r reply out₁ coded says =
     record { answer = replied reply; is = coded; holds = record { reply = reply; is = refl; says = says } }
 
--- a letter that was made, and written
-pub written : (list out : List ℕ) (m r n : ℕ) (l : Letter 65537) (out₁ : List ℕ)
+-- a letter that was made, and written or not
+pub written : (list out : List ℕ) (m : ℕ) (l : Letter 65537) (out₁ : List ℕ) (r : Result ℕ Refusal)
     → LetterOf 65537 m list l
-    → LetterWritten l.values.len l.count (numbers l.values) out out₁ n
-    → r ≡ code (done 0 n)
-    → Coded r (λ a. Writes list out m a out₁)
+    → MatchResult r (LetterWritten l.values.len l.count (numbers l.values) out out₁) (TooShort (2 + l.values.len) out out₁)
+    → MatchResult r (λ n. Written list out m 0 n out₁) (λ e. NotWritten list out m (number e) (place e) out₁)
 unfolding letter letter_of
-written list out m r n l out₁ made done-so coded =
+written list out m l out₁ (Ok n) made done-so =
     let said = made.says in
     let size = made.size in
     let there = made.sound.there in
     let count : l.count ≡ get_or list 0 0 = ap (λ (t : Said). t.many) said ∙ length-take-le (get_or list 0 0) (drop 1 list) (omega (arith, length-drop 1 list)) in
     let at : numbers l.values ≡ values 65537 (points 65537 m) (list_in list) = ap (λ (t : Said). t.at) said in
     record {
-      answer = done 0 n;
-      is = coded;
-      holds =
-          record {
-            few = made.few;
-            sound = made.sound;
-            size = done-so.size ∙ ap (λ t. 2 + t) size;
-            none = refl;
-            leaves =
-                done-so.leaves
-                ∙ ap (λ t. t ∷ l.count ∷ (numbers l.values ++ drop (2 + t) out)) size
-                ∙ ap (λ t. m ∷ t ∷ (numbers l.values ++ drop (2 + m) out)) count
-                ∙ ap (λ t. m ∷ get_or list 0 0 ∷ (t ++ drop (2 + m) out)) at;
-          };
+      few = made.few;
+      sound = made.sound;
+      size = done-so.size ∙ ap (λ t. 2 + t) size;
+      none = refl;
+      leaves =
+          done-so.leaves
+          ∙ ap (λ t. t ∷ l.count ∷ (numbers l.values ++ drop (2 + t) out)) size
+          ∙ ap (λ t. m ∷ t ∷ (numbers l.values ++ drop (2 + m) out)) count
+          ∙ ap (λ t. m ∷ get_or list 0 0 ∷ (t ++ drop (2 + m) out)) at;
+    }
+written list out m l out₁ (Err e) made short =
+    record {
+      kept = short.kept;
+      due = inr (inr (short.told, short.where_is, made.few, made.sound, omega (arith, short.short, made.size)));
     }
 
 -- no letter of the list
-pub not_made : (list out : List ℕ) (m r : ℕ) (e : Refusal)
-    → NoLetterOf 65537 m list e
-    → r ≡ code (told e)
-    → Coded r (λ a. Writes list out m a out)
-not_made list out m r e why coded = record { answer = told e; is = coded; holds = record { kept = refl; due = due why } }
+pub not_made : (list out : List ℕ) (m : ℕ) (e : Refusal) → NoLetterOf 65537 m list e → NotWritten list out m (number e) (place e) out
+not_made list out m e why = record { kept = refl; due = due why }
   where
     due : NoLetterOf 65537 m list e → Due list out m (number e) (place e)
     due (inl (t, inl many)) = inl (t.0, t.1, many)
     due (inl (t, inr many)) = inl (t.0, t.1, omega arith)
     due (inr (few, (fewer, no'))) = inr (inl (no'.told, few, no'.fault))
-
--- no room for it
-pub not_written : (list out : List ℕ) (m r : ℕ) (l : Letter 65537) (out₁ : List ℕ) (e : Refusal)
-    → LetterOf 65537 m list l
-    → TooShort (2 + l.values.len) out out₁ e
-    → r ≡ code (told e)
-    → Coded r (λ a. Writes list out m a out₁)
-not_written list out m r l out₁ e made short coded =
-    record {
-      answer = told e;
-      is = coded;
-      holds =
-          record {
-            kept = short.kept;
-            due = inr (inr (short.told, short.where_is, made.few, made.sound, omega (arith, short.short, made.size)));
-          };
-    }

@@ -1,8 +1,8 @@
 // The number that stands for an answer.
+// Kept: the C interface answers by one number, so what an answer is and why it is refused are numbers there.
 ghost use Rattle.std.specs.Prelude.{◌≡◌, ◌<◌};
 ghost use Rattle.capi.specs.Answers.{code, done, more, told};
 
-use decode::Reply;
 use letter::refusals::Refusal;
 
 // What places of 2^32 - 1 and more are told as; in the high half of an answer, "more".
@@ -20,8 +20,7 @@ pub(crate) fn code_done(went: u64, came: u64) -> u64
 pub(crate) fn code_refused(refusal: Refusal) -> u64
     ensures { result ≡ code (told refusal) }
 {
-    let place = refusal.place();
-    refusal.number() * 4294967296 + if place < LAST { place } else { LAST }
+    refusal.number() * 4294967296 + refusal.place().min(LAST)
 }
 
 pub(crate) fn code_more() -> u64

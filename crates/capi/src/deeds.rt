@@ -3,8 +3,7 @@
 ghost use Rattle.capi.specs.Deeds.{Came, Counts, DueComes, DueGoes, Miscounts, NotCame, NotLent, NotWent, Went};
 ghost use Rattle.capi.specs.Steps.{Coming, Going, Held};
 ghost use Rattle.letter.specs.Refusals.{number, place};
-ghost use Rattle.std.specs.Option.{MatchOption};
-ghost use Rattle.std.specs.Result.{MatchResult};
+ghost use Rattle.std.specs.Prelude.{◌≡◌, MatchResult};
 
 use field::modulus::{PRIME, prime_65537};
 use field::tally::Tally;
@@ -13,33 +12,29 @@ use letter::refusals::Refusal;
 use letter::slices::{read_letter, write_letter};
 use sorted::slices::{insert_at, remove_at, search};
 
-// The place at which a list fails to have so many numbers: 0 where it says nothing or another count.
-fn miscount(list: &[u64], count: u64) -> Option<u64>
-    ensures { MatchOption result (Counts list.now count) (Miscounts list.now count) }
+// That a list has so many numbers, or the place at which it fails to: 0 where it says nothing or another count.
+// Kept: it gives no slice of the numbers, since a step needs the count all the same, and `lent` would give a pair with a lifetime.
+fn counted(list: &[u64], count: u64) -> Result<(), Refusal>
+    ensures { MatchResult result (λ _. Counts list.now count) (λ e. (number e ≡ 2) × Miscounts list.now count (place e)) }
 {
     let [many, rest @ ..] = list else {
-        return Some(0);
+        return Err(Refusal::List(0));
     };
     if *many != count {
-        return Some(0);
+        return Err(Refusal::List(0));
     }
     if (rest.len() as u64) < count {
-        return Some(list.len() as u64);
+        return Err(Refusal::List(list.len() as u64));
     }
-    None
+    Ok(())
 }
 
 // The letter that is lent, if it is sound and the list has as many numbers as it says.
 fn lent(note: &[u64], list: &[u64]) -> Result<Letter<PRIME>, Refusal>
     ensures { MatchResult result (Held note.now list.now) (λ e. NotLent note.now list.now (number e) (place e)) }
 {
-    let letter = match read_letter(prime_65537(), note) {
-        Ok(letter) => letter,
-        Err(refusal) => return Err(refusal),
-    };
-    if let Some(place) = miscount(list, letter.count()) {
-        return Err(Refusal::List(place));
-    }
+    let letter = read_letter(prime_65537(), note)?;
+    counted(list, letter.count())?;
     Ok(letter)
 }
 
@@ -55,19 +50,13 @@ struct Step {
 fn coming(note: &[u64], list: &[u64], n: u64) -> Result<Step, Refusal>
     ensures { MatchResult result (Coming note.now list.now n) (λ e. DueComes note.now list.now n (number e) (place e)) }
 {
-    let letter = match lent(note, list) {
-        Ok(letter) => letter,
-        Err(refusal) => return Err(refusal),
-    };
+    let letter = lent(note, list)?;
     let count = letter.count() as usize;
     let Err(place) = search(&list[1..1 + count], n) else {
         return Err(Refusal::Comes(n));
     };
     let mut tally = Tally::new();
-    let next = match letter.comes(prime_65537(), n, &mut tally) {
-        Ok(next) => next,
-        Err(refusal) => return Err(refusal),
-    };
+    let next = letter.comes(prime_65537(), n, &mut tally)?;
     if list.len() < 2 + count {
         return Err(Refusal::Short(list.len() as u64));
     }
@@ -78,15 +67,10 @@ fn coming(note: &[u64], list: &[u64], n: u64) -> Result<Step, Refusal>
 pub(crate) fn comes(note: &mut [u64], list: &mut [u64], n: u64) -> Result<(), Refusal>
     ensures { MatchResult result (λ _. Came note.old list.old n note.new list.new) (λ e. NotCame note.old list.old n (number e) (place e) note.new list.new) }
 {
-    let step = match coming(note, list, n) {
-        Ok(step) => step,
-        Err(refusal) => return Err(refusal),
-    };
+    let step = coming(note, list, n)?;
     insert_at(&mut list[1..2 + step.count], step.place, n);
     list[0] = step.next.count();
-    let Ok(_) = write_letter(step.next, note) else {
-        unreachable()
-    };
+    write_letter(step.next, note).unwrap();
     Ok(())
 }
 
@@ -94,19 +78,13 @@ pub(crate) fn comes(note: &mut [u64], list: &mut [u64], n: u64) -> Result<(), Re
 fn going(note: &[u64], list: &[u64], n: u64) -> Result<Step, Refusal>
     ensures { MatchResult result (Going note.now list.now n) (λ e. DueGoes note.now list.now n (number e) (place e)) }
 {
-    let letter = match lent(note, list) {
-        Ok(letter) => letter,
-        Err(refusal) => return Err(refusal),
-    };
+    let letter = lent(note, list)?;
     let count = letter.count() as usize;
     let Ok(place) = search(&list[1..1 + count], n) else {
         return Err(Refusal::Goes(n));
     };
     let mut tally = Tally::new();
-    let next = match letter.goes(prime_65537(), n, &mut tally) {
-        Ok(next) => next,
-        Err(refusal) => return Err(refusal),
-    };
+    let next = letter.goes(prime_65537(), n, &mut tally)?;
     Ok(Step { next, count, place })
 }
 
@@ -114,14 +92,9 @@ fn going(note: &[u64], list: &[u64], n: u64) -> Result<Step, Refusal>
 pub(crate) fn goes(note: &mut [u64], list: &mut [u64], n: u64) -> Result<(), Refusal>
     ensures { MatchResult result (λ _. Went note.old list.old n note.new list.new) (λ e. NotWent note.old list.old n (number e) (place e) note.new list.new) }
 {
-    let step = match going(note, list, n) {
-        Ok(step) => step,
-        Err(refusal) => return Err(refusal),
-    };
+    let step = going(note, list, n)?;
     remove_at(&mut list[1..1 + step.count], step.place);
     list[0] = step.next.count();
-    let Ok(_) = write_letter(step.next, note) else {
-        unreachable()
-    };
+    write_letter(step.next, note).unwrap();
     Ok(())
 }

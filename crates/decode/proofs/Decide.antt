@@ -1,9 +1,14 @@
 -- What the reader concludes at the m largest numbers below p: nothing explains the letter, or the candidate does.
-use Rattle.std.proofs.Common.{◌≡◌, ℕ, true, false, List, subst, arith}
+use Rattle.std.proofs.Common.{◌≡◌, ℕ, Bool, true, false, List, Option, sym, subst, arith}
+use Rattle.std.specs.Bool.{then_some}
 use Rattle.std.proofs.lemmas.Bool.Decides.{nat_tests}
 use Rattle.letter.specs.Letter.{Letter}
 use Rattle.explain.specs.Explanation.{Explains, Found, these, TooMany}
+use Rattle.decode.specs.Beside.{Differs, ToldBy}
+use Rattle.decode.specs.Decoding.{Only}
+use Rattle.decode.specs.Numbers.{listed}
 use Rattle.decode.specs.Test.{explained, found}
+use Rattle.decode.specs.declared.numbers.Difference.{Difference}
 
 pub explains_from_test : (p m : ℕ) (l : Letter) (here gone come : List ℕ)
     → explained p m l here gone come ≡ true
@@ -78,3 +83,23 @@ found_refuses p m d l here gone come h one =
     let t = test_from_found p m d l here gone come one in
     let e : ◌≡◌ {A = ℕ} 0 1 = cc in
     omega arith
+
+-- the candidate that passes the test is told, and nothing else explains the letter
+pub candidate_told : (p m d : ℕ) (l : Letter) (here gone come : List ℕ)
+    → ((g c : List ℕ) → Found p m d l here g c → (g ≡ gone) × (c ≡ come))
+    → found p m d l here gone come ≡ true
+    → ToldBy p m d l here gone come
+candidate_told p m d l here gone come only test =
+    record { found = found_from_test p m d l here gone come test; alone = only }
+
+-- what the candidate is told to be, by its test
+pub decided : (p m d : ℕ) (l : Letter) (here : List ℕ) (one : Difference) (b : Bool) (result : Option Difference)
+    → Only p m d l here (listed one.gone) (listed one.come)
+    → b ≡ found p m d l here (listed one.gone) (listed one.come)
+    → result ≡ then_some b one
+    → Differs p m d l here result
+decided p m d l here one true result only test is =
+    subst (λ (r : Option Difference). Differs p m d l here r) (sym is) (candidate_told p m d l here _ _ only.only (sym test))
+decided p m d l here one false result only test is =
+    subst (λ (r : Option Difference). Differs p m d l here r) (sym is)
+    (candidate_too_many p m d l here _ _ only.only (found_refuses p m d l here _ _ (sym test)))

@@ -18,6 +18,7 @@ pub mod Whole
 pub mod Steps
 pub mod Rows
 pub mod Answer
+pub mod Alone
 pub mod Worked
 mod Differences
 mod TableRows

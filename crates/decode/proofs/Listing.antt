@@ -1,5 +1,5 @@
 -- A row of numbers: its length, none, and one more at the end.
-use Rattle.std.proofs.Common.{◌≡◌, ℕ, ◌+◌, ◌≤◌, true, List, [], ◌∷◌, ◌++◌, length, sym, refl, ap, ◌∙◌, arith}
+use Rattle.std.proofs.Common.{◌≡◌, ℕ, ◌+◌, true, List, [], ◌∷◌, ◌++◌, length, sym, refl, ap, ◌∙◌, arith}
 use Rattle.std.proofs.lemmas.List.{length-take-le}
 use Rattle.std.proofs.lemmas.Bool.Decides.{nat_tests}
 use Rattle.std.proofs.lemmas.Bool.{lt-ltb}
@@ -13,11 +13,6 @@ length_listed ns = length-take-le ns.len ns.at (omega (arith, ns.sized, ns.few))
 
 pub length_none : (ns : Numbers) → listed ns ≡ [] → ns.len ≡ 0
 length_none ns none = sym (length_listed ns) ∙ ap length none
-
-pub below_more : (x y : ℕ) (ns : List ℕ) → all_below x ns ≡ true → x ≤ y → all_below y ns ≡ true
-unfolding all_below
-below_more x y [] low up = refl
-below_more x y (n ∷ ns) low up = let h = below_more x y ns in grind (arith, nat_tests)
 
 pub below_push : (x : ℕ) (ns : List ℕ) → all_below x ns ≡ true → all_below (x + 1) (ns ++ x ∷ []) ≡ true
 unfolding all_below

@@ -1,49 +1,66 @@
 -- What writes to a lent row leave there.
-use Rattle.std.proofs.Common.{◌≡◌, ℕ, ◌+◌, ◌-◌, ◌≤◌, List, ◌++◌, length, take, drop, Some, Option, sym, refl, ap, ◌∙◌, subst, arith}
+use Rattle.std.proofs.Common.{◌≡◌, ℕ, ◌+◌, ◌-◌, ◌≤◌, List, ◌++◌, length, take, drop, Some, Option, refl, ap, ◌∙◌, subst, arith}
 use borrow.Rule.Slice.PartMut.{put_mid, post_of}
 use Rattle.std.proofs.lemmas.List.{take_at, drop_at, drop-drop, drop_all, take_rest, append-nil, length-drop}
 use Rattle.decode.specs.Entry.{Room, Tells}
 use Rattle.decode.specs.declared.entry.Reply.TheVariants.{These}
 use Rattle.decode.specs.declared.numbers.Difference.{Difference}
 use Rattle.decode.specs.Numbers.{listed}
-use Rattle.decode.specs.declared.numbers.Numbers.{Numbers}
 use Rattle.decode.proofs.Listing.{length_listed}
-use Rattle.decode.proofs.Whole.{part_listed}
-
-pub start_written : (n : Numbers) (out part : List ℕ)
-    → part ≡ take (n.len - 0) n.at
-    → part ++ post_of 0 (n.len - 0) out ≡ listed n ++ drop n.len out
-start_written n out part copied =
-    ap (λ t. t ++ post_of 0 (n.len - 0) out) (copied ∙ part_listed n)
-    ∙ ap (λ k. listed n ++ drop k out) (omega arith)
 
 -- gone at the start, and come in the part that starts where they end
-pub both_written : (gone come : Numbers) (out mid end : List ℕ)
-    → gone.len + come.len ≤ length out
-    → mid ≡ listed gone ++ drop gone.len out
-    → end ≡ listed come ++ drop come.len (take (length mid - gone.len) (drop gone.len mid))
-    → put_mid gone.len (length mid - gone.len) mid end
-    ≡ listed gone ++ (listed come ++ drop (gone.len + come.len) out)
+pub both_written : (gone come out mid end : List ℕ)
+    → length gone + length come ≤ length out
+    → mid ≡ gone ++ drop (length gone) out
+    → end ≡ come ++ drop (length come) (take (length mid - length gone) (drop (length gone) mid))
+    → put_mid (length gone) (length mid - length gone) mid end ≡ gone ++ (come ++ drop (length gone + length come) out)
 both_written gone come out mid end room first second =
-    let w : ℕ = gone.len in
-    let front : take w mid ≡ listed gone = ap (take w) first ∙ take_at (listed gone) (drop w out) w (length_listed gone) in
-    let back : drop w mid ≡ drop w out = ap (drop w) first ∙ drop_at (listed gone) (drop w out) w (length_listed gone) in
-    let after : end ≡ listed come ++ drop (w + come.len) out =
+    let w : ℕ = length gone in
+    let n : ℕ = length come in
+    let front : take w mid ≡ gone = ap (take w) first ∙ take_at gone (drop w out) w refl in
+    let back : drop w mid ≡ drop w out = ap (drop w) first ∙ drop_at gone (drop w out) w refl in
+    let after : end ≡ come ++ drop (w + n) out =
     second
-    ∙ ap (λ t. listed come ++ drop come.len t) (take_rest mid w ∙ back)
-    ∙ ap (λ t. listed come ++ t) (drop-drop come.len w out) in
+    ∙ ap (λ t. come ++ drop n t) (take_rest mid w ∙ back)
+    ∙ ap (λ t. come ++ t) (drop-drop n w out) in
     ap (λ t. t ++ (end ++ post_of w (length mid - w) mid)) front
-    ∙ ap (λ t. listed gone ++ (t ++ post_of w (length mid - w) mid)) after
-    ∙ ap (λ t. listed gone ++ ((listed come ++ drop (w + come.len) out) ++ t))
+    ∙ ap (λ t. gone ++ (t ++ post_of w (length mid - w) mid)) after
+    ∙ ap (λ t. gone ++ ((come ++ drop (w + n) out) ++ t))
     (drop_all (length mid - w) (drop w mid) (omega (arith, length-drop w mid)))
-    ∙ ap (λ t. listed gone ++ t) (append-nil (listed come ++ drop (w + come.len) out))
+    ∙ ap (λ t. gone ++ t) (append-nil (come ++ drop (w + n) out))
 
-pub tells_some : (f : Difference) (o : Option Difference) (out out₁ : List ℕ)
-    → o ≡ Some f
-    → out₁ ≡ listed f.gone ++ (listed f.come ++ drop (f.gone.len + f.come.len) out)
-    → Tells o out (These f.gone.len f.come.len) out₁
-tells_some f o out out₁ is written =
-    subst (λ (t : Option Difference). Tells t out (These f.gone.len f.come.len) out₁) (sym is) (refl, written)
+-- behind the numbers gone there is room for the numbers come
+pub rest_room : (gone come out mid : List ℕ)
+    → length gone + length come ≤ length out
+    → mid ≡ gone ++ drop (length gone) out
+    → length come ≤ length (take (length mid - length gone) (drop (length gone) mid))
+rest_room gone come out mid room first =
+    let rest : length (take (length mid - length gone) (drop (length gone) mid)) ≡ length out - length gone =
+    ap length (take_rest mid (length gone) ∙ ap (drop (length gone)) first ∙ drop_at gone (drop (length gone) out) (length gone) refl)
+    ∙ length-drop (length gone) out in
+    omega arith
 
-pub room_some : (f : Difference) (o : Option Difference) (n : ℕ) → o ≡ Some f → Room o n → f.gone.len + f.come.len ≤ n
-room_some f o n is room = subst (λ (t : Option Difference). Room t n) is room
+module _ (f : Difference) (gone come : List ℕ) (gone_is : gone ≡ listed f.gone) (come_is : come ≡ listed f.come) where
+  gone_size : length gone ≡ f.gone.len
+  gone_size = ap length gone_is ∙ length_listed f.gone
+
+  come_size : length come ≡ f.come.len
+  come_size = ap length come_is ∙ length_listed f.come
+
+  pub room_some : (o : Option Difference) (n : ℕ) → o ≡ Some f → Room o n → length gone + length come ≤ n
+  room_some o n some room =
+      let here : Room (Some f) n = subst (λ (t : Option Difference). Room t n) some room in
+      omega (arith, gone_size, come_size)
+
+  pub tells_some : (o : Option Difference) (out out₁ : List ℕ)
+      → o ≡ Some f
+      → out₁ ≡ gone ++ (come ++ drop (length gone + length come) out)
+      → Tells o out (These (length gone) (length come)) out₁
+  tells_some o out out₁ some written = rw some (
+    ap (λ t. These t (length come)) gone_size ∙ ap (These f.gone.len) come_size,
+    written
+        ∙ ap (λ t. t ++ (come ++ drop (length gone + length come) out)) gone_is
+        ∙ ap (λ t. listed f.gone ++ (t ++ drop (length gone + length come) out)) come_is
+        ∙ ap (λ t. listed f.gone ++ (listed f.come ++ drop (t + length come) out)) gone_size
+        ∙ ap (λ t. listed f.gone ++ (listed f.come ++ drop (f.gone.len + t) out)) come_size,
+  )

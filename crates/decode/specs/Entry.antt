@@ -7,7 +7,7 @@
 --   TheseSay ..            the numbers gone and come that are told: they explain the letter, and nothing else does
 --   ReadSays ..            the answer in full; a refusal leaves the row as it was
 --   SoundBeside, DueBeside, BesideSays      the same beside a desk's own list
-use Rattle.std.specs.Prelude.{◌≡◌, ℕ, ◌+◌, ◌-◌, ◌<◌, ◌≤◌, ◌⊎◌, List, ◌++◌, length, drop, Some, None, Option, slice_index, slice_index_or}
+use Rattle.std.specs.Prelude.{◌≡◌, ℕ, ◌+◌, ◌-◌, ◌<◌, ◌≤◌, ◌⊎◌, List, ◌++◌, length, drop, Some, None, Option, slice_index}
 use Rattle.letter.specs.Desks.{Told}
 use Rattle.letter.specs.Refusals.{number, place}
 use Rattle.letter.specs.Slices.{letter_in, list_in, LetterSound, LetterFault, ListSound, ListFault}
@@ -62,7 +62,7 @@ ReadSays p note here out d (Refused e) out₁ = (out₁ ≡ out) × Due p note h
 -- the same beside a desk that keeps k values of its list: a letter of more values is told as a letter at fault, at 0
 pub record SoundBeside (p : ℕ) (note : List ℕ) (k : ℕ) (out : List ℕ) (d : ℕ) : Type 0 where
   pub letter : LetterSound p note
-  pub kept : slice_index_or note 0 0 ≤ k
+  pub kept : slice_index note 0 ≤ k
   pub allowed : d ≤ slice_index note 0
   pub room : d ≤ length out
 

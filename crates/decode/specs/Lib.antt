@@ -3,7 +3,6 @@ pub mod Equations
 pub mod Division
 pub mod Trial
 pub mod Test
-pub mod Values
 pub mod Numbers
 pub mod Polynomials
 pub mod Steps

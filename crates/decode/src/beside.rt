@@ -1,13 +1,11 @@
 // A letter read beside a desk's own list.
-ghost use Rattle.std.specs.Prelude.{◌≡◌, MatchResult};
+ghost use Rattle.std.specs.Prelude.{MatchResult};
 ghost use Rattle.decode.specs.Beside.{Read, Unread};
 ghost use Rattle.letter.specs.Desks.{desk_of, desk_size};
 ghost use Rattle.letter.specs.Letters.{letter_of};
 
-use crate::check::Sides;
-use crate::decoding::difference;
-use crate::evaluate::from_row;
 use crate::numbers::Difference;
+use crate::question::Question;
 use letter::desks::Desk;
 use letter::letters::Letter;
 use letter::refusals::Refusal;
@@ -21,25 +19,18 @@ pub fn difference_beside<const P: u64>(
 ) -> Result<Option<Difference>, Refusal>
     ensures { MatchResult result (Read P letter.entry.values.len d (letter_of letter.entry) (desk_of desk.now).list (desk_size desk.now)) (Unread letter.entry.values.len d (desk_size desk.now)) }
 {
-    let modulus = desk.modulus();
-    let sent = letter.values();
-    let m = sent.len() as u64;
-    let kept = match desk.letter(m) {
-        Ok(kept) => kept,
-        Err(refusal) => return Err(refusal),
-    };
+    let m = letter.values().len() as u64;
+    let kept = desk.letter(m)?;
     if d > m {
         return Err(Refusal::Allowance(d));
     }
-    let Some(nodes) = Row::points_for(modulus, m) else {
-        unreachable()
+    let question = Question {
+        modulus: desk.modulus(),
+        nodes: Row::points_for(desk.modulus(), m).unwrap(),
+        letter,
+        own: kept.values(),
+        here: desk.list(),
+        d,
     };
-    let own = from_row(modulus, kept.values());
-    let sides = Sides {
-        modulus,
-        nodes,
-        sent,
-        own,
-    };
-    Ok(difference(sides, letter.count(), desk.list(), d))
+    Ok(question.difference())
 }

@@ -10,9 +10,9 @@ pub mod entry;
 mod evaluate;
 pub mod numbers;
 mod polynomial;
+mod question;
 mod roots;
 pub mod theorems;
-mod values;
 
 pub use beside::difference_beside;
 pub use entry::{Reply, read_beside, read_letter, read_modulo};

@@ -1,4 +1,5 @@
 // Up to sixty-four plain numbers, by value.
+// Kept: an array with a count beside it, since the reader has no heap.
 ghost use Rattle.std.specs.Prelude.{◌≡◌, ◌≤◌, length};
 
 mod push;
@@ -6,8 +7,8 @@ mod views;
 
 #[derive(Clone, Copy)]
 pub struct Numbers {
-    pub(crate) at: [u64; 64],
-    pub(crate) len: usize,
+    at: [u64; 64],
+    len: usize,
     ghost sized: { length at ≡ 64 },
     ghost few: { len ≤ 64 },
 }

@@ -5,5 +5,5 @@ use Rattle.std.specs.Prelude.{ℕ, List}
 use Rattle.letter.specs.Letter.{letter}
 use Rattle.lines.specs.Text.{letter_text}
 
-unfoldable pub kept_text : ℕ → List ℕ → List ℕ
+abbrev pub kept_text : ℕ → List ℕ → List ℕ
 kept_text m ns = letter_text (letter 65537 m ns).many (letter 65537 m ns).at

@@ -9,6 +9,7 @@ mod deeds;
 #[cfg(test)]
 mod tests;
 
+// Kept: each program has its own `main`, which hands on its input and prints what is answered.
 fn main(rt: HostRuntime) -> io::Result<()> {
     let mut input = Vec::new(rt.alloc());
     rt.stdin().read_to_end(&mut input)?;

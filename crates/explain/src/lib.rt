@@ -57,12 +57,5 @@ pub fn rows(p: u64, m: u32) -> Option<u64>
     ensures exact { MatchOption result (2 ^ 64 ≤ powers p m) (λ n. n ≡ powers p m) }
     ensures alike { SomeLettersAlike }
 {
-    let mut n: u64 = 1;
-    for _i in 0..m {
-        let Some(more) = n.checked_mul(p) else {
-            return None;
-        };
-        n = more;
-    }
-    Some(n)
+    p.checked_pow(m)
 }

@@ -3,3 +3,4 @@ pub mod Polynomial
 pub mod Cost
 pub mod Residues
 pub mod Theorems
+pub mod Plain

@@ -1,10 +1,10 @@
 -- From the tests of the sorted lists to the facts that the algebra of polynomials takes, and back.
-use Rattle.std.proofs.Common.{◌≡◌, ℕ, ◌≤◌, true, false, ◌⊎◌, List, [], ◌∷◌, ◌++◌, sym, refl, ap, ◌∙◌, inl, inr, arith}
+use Rattle.std.proofs.Common.{◌≡◌, ℕ, ◌<◌, ◌≤◌, true, false, ◌⊎◌, List, [], ◌∷◌, ◌++◌, sym, refl, ap, ◌∙◌, inl, inr, arith}
 use Rattle.std.proofs.lemmas.Bool.Decides.{nat_tests}
 use Rattle.std.proofs.lemmas.Bool.{cases_eq}
 use Rattle.field.specs.Polynomial.{Among, Below}
 use Rattle.sorted.specs.Lists.{has, all_below}
-use Rattle.sorted.proofs.Members.{has_first, has_later}
+use Rattle.sorted.proofs.Members.{has_first, has_later, has_below}
 
 pub among_from_has : (z : ℕ) (ns : List ℕ) → has ns z ≡ true → Among z ns
 unfolding has
@@ -19,13 +19,6 @@ pub has_from_among : (z : ℕ) (ns : List ℕ) → Among z ns → has ns z ≡ t
 has_from_among z [] m = absurd m
 has_from_among z (n ∷ ns) (inl e) = ap (has (n ∷ ns)) e ∙ has_first n ns
 has_from_among z (n ∷ ns) (inr m) = has_later n z ns (has_from_among z ns m)
-
--- a number that is not found is not there
-pub not_among : (z : ℕ) (ns : List ℕ) → has ns z ≡ false → Among z ns → ⊥
-not_among z ns h m =
-    let t = has_from_among z ns m in
-    let e : ◌≡◌ {A = ℕ} 0 1 = cc in
-    omega arith
 
 pub has_not : (z : ℕ) (ns : List ℕ) → (Among z ns → ⊥) → has ns z ≡ false
 has_not z ns none = let f : has ns z ≡ true → ⊥ = λ h. none (among_from_has z ns h) in grind (arith, nat_tests)
@@ -71,3 +64,8 @@ among_either z (x ∷ xs) ys (inr m) = go (among_either z xs ys m)
     go : Among z xs ⊎ Among z ys → ((z ≡ x) ⊎ Among z xs) ⊎ Among z ys
     go (inl l) = inl (inr l)
     go (inr r) = inr r
+
+-- a number that stands in a list is below what all of it is below
+pub all_below_middle : (b n : ℕ) (xs ys : List ℕ) → all_below b (xs ++ n ∷ ys) ≡ true → n < b
+all_below_middle b n xs ys low =
+    has_below b n (xs ++ n ∷ ys) (has_from_among n (xs ++ n ∷ ys) (among_right n xs (n ∷ ys) (inl refl))) low

@@ -1,15 +1,14 @@
 -- What can stop an exchange of numbers gone, which are on the list, for numbers come, which are not.
-use Rattle.std.proofs.Common.{◌≡◌, ℕ, ◌+◌, ◌-◌, ◌<◌, ◌≤◌, ◌⊎◌, true, false, List, [], ◌∷◌, ◌++◌, length, subst, inl, inr, arith}
+use Rattle.std.proofs.Common.{◌≡◌, ℕ, ◌+◌, ◌-◌, ◌<◌, ◌≤◌, ◌⊎◌, true, false, List, [], ◌∷◌, ◌++◌, length, map, subst, inl, inr, arith}
 use Rattle.std.proofs.lemmas.Bool.Decides.{nat_tests}
 use Rattle.sorted.specs.Lists.{has, rising, put, without, without_all}
 use Rattle.sorted.proofs.Members.{has_first, has_later, rising_tail, rising_over}
 use Rattle.sorted.proofs.Insertion.{put_has, put_rising, put_length_le, without_has, without_rising}
 use Rattle.sorted.proofs.Union.{without_all_has, without_all_rising}
 use Rattle.letter.specs.Desks.{Told}
-use Rattle.letter.specs.Exchanges.{final, Stopped, deeds, replacing}
-use Rattle.letter.specs.Letter.{Deed}
+use Rattle.letter.specs.Exchanges.{final, Stopped, replacing}
+use Rattle.letter.specs.Letter.{Deed, comes, goes}
 use Rattle.letter.specs.Refusals.{capacity}
-use Rattle.letter.specs.declared.desks.Direction.TheVariants.{Come, Go}
 use Rattle.letter.specs.declared.refusals.Refusal.{Refusal}
 use Rattle.letter.specs.declared.refusals.Refusal.TheVariants.{Memory}
 use Rattle.letter.proofs.Exchanges.{final_go}
@@ -27,9 +26,9 @@ pub going_stop : (p m : ℕ) (gone : List ℕ) (ys : List Deed) (ms : List ℕ) 
     → rising gone ≡ true
     → rising ms ≡ true
     → ((n : ℕ) → has gone n ≡ true → has ms n ≡ true)
-    → Stopped p m ms (deeds Go gone ++ ys) e
-    → Stopped p m (final ms (deeds Go gone)) ys e
-unfolding Stopped deeds final
+    → Stopped p m ms (map goes gone ++ ys) e
+    → Stopped p m (final ms (map goes gone)) ys e
+unfolding Stopped final
 going_stop p m [] ys ms e up rises there stopped = stopped
 going_stop p m (n ∷ gone) ys ms e up rises there (inl stops) =
     let a = stops.0 in let b = there n (has_first n gone) in absurd (grind (arith, nat_tests))
@@ -48,9 +47,9 @@ pub coming_stop : (p m : ℕ) (come ms : List ℕ) (e : Refusal)
     → rising come ≡ true
     → rising ms ≡ true
     → ((n : ℕ) → has come n ≡ true → has ms n ≡ false)
-    → Stopped p m ms (deeds Come come) e
+    → Stopped p m ms (map comes come) e
     → Halts p m ms come e
-unfolding Stopped deeds
+unfolding Stopped
 coming_stop p m [] ms e up rises new stopped = absurd stopped
 coming_stop p m (n ∷ come) ms e up rises new (inl (inl (told, inl large))) = inr (inl (n, (told, has_first n come, large)))
 coming_stop p m (n ∷ come) ms e up rises new (inl (inl (told, inr there))) =
@@ -85,5 +84,5 @@ unfolding replacing
 replacing_stop p m gone come ms e up up' rises there new stopped =
     coming_stop p m come (without_all gone ms) e up' (without_all_rising gone ms rises)
     (λ n h. let a = new n h in let b = without_all_has gone ms n rises in grind (arith, nat_tests))
-    (subst (λ (t : List ℕ). Stopped p m t (deeds Come come) e) (final_go gone ms rises)
-    (going_stop p m gone (deeds Come come) ms e up rises there stopped))
+    (subst (λ (t : List ℕ). Stopped p m t (map comes come) e) (final_go gone ms rises)
+    (going_stop p m gone (map comes come) ms e up rises there stopped))

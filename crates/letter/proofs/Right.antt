@@ -10,6 +10,7 @@ use Rattle.sorted.specs.Lists.{pick, has, rising, all_below, put, without}
 use Rattle.sorted.proofs.Members.{has_below}
 use Rattle.sorted.proofs.Insertion.{put_rising, put_below, put_length, without_rising, without_below, without_length}
 use Rattle.letter.specs.Letter.{points, values, Letter, letter, times_each, undo_each, Deed, comes, goes, Desk, step, end, bare}
+use Rattle.letter.specs.Desks.{UpToDate}
 use Rattle.letter.specs.Theorems.{LettersRight, NeverNothing, ValuesMultiply}
 use Rattle.letter.proofs.Bridges.{below_from_all, below_more, has_from_among}
 use Rattle.letter.proofs.Points.{getD_points, points_among, points_below, points_above}
@@ -152,29 +153,24 @@ unfolding step_at step
 step_at_points p m d (comes n) = refl
 step_at_points p m d (goes n) = refl
 
-pub record Right (p m : ℕ) (d : Desk) : Type 0 where
-  pub letter_is : d.letter_now ≡ letter p m d.list
-  pub in_order : rising d.list ≡ true
-  pub small : all_below (p - m) d.list ≡ true
-
-pub step_right : (p m : ℕ) (d : Desk) (x : Deed) → Prime p → m ≤ p → Right p m d → Right p m (step p m d x)
+pub step_right : (p m : ℕ) (d : Desk) (x : Deed) → Prime p → m ≤ p → UpToDate p m d → UpToDate p m (step p m d x)
 step_right p m d x pr l right =
     let after =
     step_right_at p (points p m) (p - m) d x pr (points_apart p m l)
     (record { letter_is = right.letter_is ∙ sym (letter_at_points p m d.list); in_order = right.in_order; small = right.small }) in
-    subst (λ (e : Desk). Right p m e) (step_at_points p m d x)
+    subst (λ (e : Desk). UpToDate p m e) (step_at_points p m d x)
     (record {
       letter_is = after.letter_is ∙ letter_at_points p m (step_at p (points p m) (p - m) d x).list;
       in_order = after.in_order;
       small = after.small;
     })
 
-pub end_right : (p m : ℕ) (d : Desk) (xs : List Deed) → Prime p → m ≤ p → Right p m d → Right p m (end p m d xs)
+pub end_right : (p m : ℕ) (d : Desk) (xs : List Deed) → Prime p → m ≤ p → UpToDate p m d → UpToDate p m (end p m d xs)
 unfolding end
 end_right p m d [] pr l right = right
 end_right p m d (x ∷ xs) pr l right = end_right p m (step p m d x) xs pr l (step_right p m d x pr l right)
 
-pub bare_right : (p m : ℕ) → Right p m (bare p m)
+pub bare_right : (p m : ℕ) → UpToDate p m (bare p m)
 unfolding rising all_below
 bare_right p m = record { letter_is = refl; in_order = refl; small = refl }
 

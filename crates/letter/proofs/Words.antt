@@ -1,7 +1,6 @@
 -- Letters and lists in slices: from facts on single words to what the whole slice says.
-use Rattle.std.proofs.Common.{◌≡◌, ℕ, zero, suc, ◌+◌, ◌-◌, ◌<◌, ◌≤◌, true, List, [], ◌∷◌, ◌++◌, length, get_or, take, drop, set, sym, refl, ap, ◌∙◌, subst, add-zero, arith, below_more}
-use borrow.Rule.Slice.PartMut.{put_mid}
-use Rattle.std.proofs.lemmas.List.{append_assoc, take-append-drop, set-append_right, take_more, drop_more, drop-drop, length-take-le, length-drop, take_rest, get_or-take, get_or-drop}
+use Rattle.std.proofs.Common.{◌≡◌, ℕ, zero, suc, ◌+◌, ◌-◌, ◌<◌, ◌≤◌, true, List, [], ◌∷◌, ◌++◌, length, get_or, take, drop, set, sym, refl, ap, ◌∙◌, subst, arith, below_more, Ok, Err, Result, MatchResult}
+use Rattle.std.proofs.lemmas.List.{append_assoc, set-append_right, take_all, take_more, drop_more, drop-drop, length-take-le, length-drop, take_rest, get_or-take, get_or-drop}
 use Rattle.std.proofs.lemmas.Bool.Decides.{nat_tests}
 use Rattle.sorted.specs.Lists.{rising, all_below}
 use Rattle.sorted.specs.Faults.{Fine, FineTo, FirstFault, Faultless}
@@ -256,64 +255,42 @@ pub list_never_both : (b : ℕ) (xs : List ℕ) (i : ℕ) → ListSound b xs →
 unfolding ListFineTo
 list_never_both b xs i sound fault = fault.here (sound.each i fault.inside)
 
--- writing: xs once the first i of vs stand in it from place a on
-unfoldable pub written : ℕ → List ℕ → List ℕ → ℕ → List ℕ
-written a vs xs i = take a xs ++ (take i vs ++ drop (a + i) xs)
-
-pub written_more : (a : ℕ) (vs xs now : List ℕ) (i y : ℕ)
-    → now ≡ written a vs xs i
-    → a + i < length xs
+-- writing: the first i of vs stand at the beginning of xs, and one more
+pub written_more : (vs xs now : List ℕ) (i y : ℕ)
+    → now ≡ take i vs ++ drop i xs
+    → i < length xs
     → i < length vs
     → y ≡ get_or vs i 0
-    → set now (a + i) y ≡ written a vs xs (i + 1)
-unfolding written
-written_more a vs xs now i y before inside there is =
-    let front : length (take a xs) ≡ a = length-take-le a xs (omega arith) in
-    let middle : length (take i vs) ≡ i = length-take-le i vs (omega arith) in
-    let past : (a + i) - a ≡ i = omega arith in
+    → set now i y ≡ take (i + 1) vs ++ drop (i + 1) xs
+written_more vs xs now i y before inside there is =
     let none : i - i ≡ 0 = omega arith in
-    let next : (a + i) + 1 ≡ a + (i + 1) = omega arith in
-    ap (λ t. set t (a + i) y) before
-    ∙ set-append_right (take a xs) (take i vs ++ drop (a + i) xs) a (a + i) y front (omega arith)
-    ∙ ap (λ t. take a xs ++ t)
-    (ap (λ t. set (take i vs ++ drop (a + i) xs) t y) past
-    ∙ set-append_right (take i vs) (drop (a + i) xs) i i y middle (omega arith)
-    ∙ ap (λ t. take i vs ++ set (drop (a + i) xs) t y) none
-    ∙ ap (λ t. take i vs ++ set t 0 y) (drop_more xs (a + i) 0 inside)
-    ∙ sym (append_assoc (take i vs) (y ∷ []) (drop ((a + i) + 1) xs))
-    ∙ ap (λ t. (take i vs ++ t ∷ []) ++ drop ((a + i) + 1) xs) is
-    ∙ ap (λ t. t ++ drop ((a + i) + 1) xs) (sym (take_more vs i 0 there))
-    ∙ ap (λ t. take (i + 1) vs ++ drop t xs) next)
+    ap (λ t. set t i y) before
+    ∙ set-append_right (take i vs) (drop i xs) i i y (length-take-le i vs (omega arith)) (omega arith)
+    ∙ ap (λ t. take i vs ++ set (drop i xs) t y) none
+    ∙ ap (λ t. take i vs ++ set t 0 y) (drop_more xs i 0 inside)
+    ∙ sym (append_assoc (take i vs) (y ∷ []) (drop (i + 1) xs))
+    ∙ ap (λ t. (take i vs ++ t ∷ []) ++ drop (i + 1) xs) is
+    ∙ ap (λ t. t ++ drop (i + 1) xs) (sym (take_more vs i 0 there))
 
-pub written_all : (a : ℕ) (vs xs now : List ℕ) (i n : ℕ)
-    → now ≡ written a vs xs i
+pub written_all : (vs xs now : List ℕ) (i n : ℕ)
+    → now ≡ take i vs ++ drop i xs
     → i ≡ n
-    → now ≡ take a xs ++ (take n vs ++ drop (a + n) xs)
-unfolding written
-written_all a vs xs now i n before ended = before ∙ ap (λ t. take a xs ++ (take t vs ++ drop (a + t) xs)) ended
+    → length vs ≡ n
+    → now ≡ vs ++ drop n xs
+written_all vs xs now i n before ended all =
+    before ∙ ap (λ t. take t vs ++ drop t xs) ended ∙ ap (λ t. t ++ drop n xs) (take_all n vs (omega arith))
 
-pub written_none : (a : ℕ) (vs xs : List ℕ) → xs ≡ written a vs xs 0
-unfolding written
-written_none a vs xs = sym (ap (λ t. take a xs ++ drop t xs) (add-zero a) ∙ take-append-drop a xs)
+-- what a call told of its own answer, where `map_err` passed it on
+pub ok_passed_on : {T E : Type 0} (D : Type 0) (P : T → Type 0) (Q : E → Type 0) (r : Result T E) (x : T)
+    → MatchResult r (λ y. ◌≡◌ {A = Result T D} (Ok x) (Ok y)) (λ _. ⊥)
+    → MatchResult r P Q
+    → P x
+ok_passed_on D P Q (Ok y) x same told = let e : x ≡ y = cc in subst P (sym e) told
+ok_passed_on D P Q (Err e) x none told = absurd none
 
--- a letter's first two words, and its values from place 2 on
-pub letter_written : (m count : ℕ) (vs xs : List ℕ)
-    → 2 ≤ length xs
-    → take 2 (set (set xs 0 m) 1 count) ++ (vs ++ drop (2 + m) (set (set xs 0 m) 1 count))
-    ≡ m ∷ count ∷ (vs ++ drop (2 + m) xs)
-letter_written m count vs [] there = absurd (omega arith)
-letter_written m count vs (x ∷ []) there = absurd (omega arith)
-letter_written m count vs (x ∷ y ∷ xs) there =
-    ap (λ t. m ∷ count ∷ (vs ++ t)) (sym (drop-drop m 2 (m ∷ count ∷ xs)) ∙ drop-drop m 2 (x ∷ y ∷ xs))
-
--- a list's count, and its numbers from place 1 on
-pub list_written : (ns xs ys : List ℕ)
-    → ys ≡ ns
-    → length ns < length xs
-    → put_mid 1 ((1 + length ns) - 1) (set xs 0 (length ns)) ys ≡ length ns ∷ (ns ++ drop (1 + length ns) xs)
-list_written ns [] ys same there = absurd (omega arith)
-list_written ns (x ∷ xs) ys same there =
-    let past : (1 + length ns) - 1 ≡ length ns = omega arith in
-    ap (λ (t : ℕ). length ns ∷ (ys ++ drop t xs)) past
-    ∙ ap (λ (t : List ℕ). length ns ∷ (t ++ drop (length ns) xs)) same
-    ∙ ap (λ (t : List ℕ). length ns ∷ (ns ++ t)) (drop-drop (length ns) 1 (x ∷ xs))
+pub err_passed_on : {T E D : Type 0} (P : T → Type 0) (Q R : E → Type 0) (r : Result T E) (d : D)
+    → MatchResult r (λ y. ◌≡◌ {A = Result T D} (Err d) (Ok y)) R
+    → MatchResult r P Q
+    → (e : E) × R e × Q e
+err_passed_on P Q R (Ok y) d none told = let e : ◌≡◌ {A = ℕ} 0 1 = cc in absurd (omega arith)
+err_passed_on P Q R (Err e) d made told = (e, made, told)

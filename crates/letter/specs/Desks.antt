@@ -5,7 +5,9 @@
 --   Opened, NotOpened   a desk for m values, empty; or the refusal, and that it is due
 --   Told k i e      the refusal e is told with the number k and the place i
 --   Stops p m ns x e    the deed x cannot be done at the list ns, and e is the first reason that applies
---   Came, NotCame, Went, NotWent   what a deed does, and why it is not done
+--   Came, NotCame, Went, NotWent   what a number does that comes or goes, and why it is not done
+--   deed_of x       a deed at a desk, as a number that comes or goes
+--   DeedDone, DeedNotDone   the same of any deed at a desk
 use Rattle.std.specs.Prelude.{◌≡◌, ℕ, ◌+◌, ◌-◌, ◌%◌, ◌^◌, ◌<◌, ◌≤◌, true, false, ◌⊎◌, List, length}
 use Rattle.sorted.specs.Lists.{has, rising, all_below}
 use Rattle.sorted.specs.Sorted.{items_of}
@@ -13,6 +15,8 @@ use Rattle.letter.specs.Letter.{Desk as Held, Deed, comes, goes, step, bare, let
 use Rattle.letter.specs.Rows.{numbers}
 use Rattle.letter.specs.Refusals.{number, place, capacity}
 use Rattle.letter.specs.declared.desks.Desk.{Desk}
+use Rattle.letter.specs.declared.desks.Deed.{Deed as Asked}
+use Rattle.letter.specs.declared.desks.Deed.TheVariants.{Comes, Goes}
 use Rattle.letter.specs.declared.refusals.Refusal.{Refusal}
 use Rattle.letter.specs.declared.refusals.Refusal.TheVariants.{Memory}
 
@@ -61,10 +65,7 @@ pub record Came (p m n : ℕ) (before after : Held) (start finish : ℕ) : Type 
 pub record NotCame (p m n : ℕ) (before after : Held) (start finish : ℕ) (e : Refusal) : Type 0 where
   pub same : after ≡ before
   pub uncounted : finish ≡ start
-  pub why :
-      (Told 5 n e × ((p - m ≤ n) ⊎ (has before.list n ≡ true)))
-      ⊎ ((Told 7 capacity e × ((n < p - m) × (has before.list n ≡ false) × (capacity ≤ length before.list)))
-      ⊎ ((e ≡ Memory) × ((n < p - m) × (has before.list n ≡ false) × (length before.list < capacity))))
+  pub why : Stops p m before.list (comes n) e
 
 pub record Went (p m n : ℕ) (before after : Held) (start finish : ℕ) : Type 0 where
   pub there : has before.list n ≡ true
@@ -76,6 +77,18 @@ pub record NotWent (n : ℕ) (before after : Held) (start finish : ℕ) (e : Ref
   pub uncounted : finish ≡ start
   pub missing : has before.list n ≡ false
   pub told : Told 6 n e
+
+abbrev pub deed_of : Asked → Deed
+deed_of (Comes n) = comes n
+deed_of (Goes n) = goes n
+
+abbrev pub DeedDone : ℕ → ℕ → Asked → Held → Held → ℕ → ℕ → Type 0
+DeedDone p m (Comes n) before after start finish = Came p m n before after start finish
+DeedDone p m (Goes n) before after start finish = Went p m n before after start finish
+
+abbrev pub DeedNotDone : ℕ → ℕ → Asked → Held → Held → ℕ → ℕ → Refusal → Type 0
+DeedNotDone p m (Comes n) before after start finish e = NotCame p m n before after start finish e
+DeedNotDone p m (Goes n) before after start finish e = NotWent n before after start finish e
 
 -- the letter kept is the letter of the list, which rises and is below p - m
 pub record UpToDate (p m : ℕ) (d : Held) : Type 0 where

@@ -6,19 +6,17 @@
 --                          a number goes that is there
 --   AllFree p m ns xs      each deed of xs can be done when its turn comes
 --   Stopped p m ns xs e    one deed of xs cannot be done when its turn comes, e says why, and each before it can
---   deed w n               the number n comes, or goes
---   deeds w ns             each number of ns comes, or goes
+--   Makes made w           what is made of a number n, as `made` says it, is the deed w n
 --   replacing gone come    the numbers gone go, and then the numbers come come
 --   Done, NotDone          one deed is done, or it is not
 --   AllDone                several deeds are done
 --   Exchanged, NotExchanged   a desk after the numbers gone went and the numbers come came, or why nothing changed
-use Rattle.std.specs.Prelude.{◌≡◌, ℕ, ◌+◌, ◌-◌, ◌*◌, ◌%◌, ◌^◌, ◌<◌, true, false, ◌⊎◌, List, [], ◌∷◌, ◌++◌, length}
+use Rattle.std.specs.Prelude.{◌≡◌, ℕ, ◌+◌, ◌-◌, ◌*◌, ◌%◌, ◌^◌, ◌<◌, true, false, ◌⊎◌, List, [], ◌∷◌, ◌++◌, length, map}
 use Rattle.sorted.specs.Lists.{has, put, without, brought}
-use Rattle.letter.specs.Desks.{Stops}
+use Rattle.letter.specs.Desks.{Stops, deed_of}
 use Rattle.letter.specs.Letter.{Desk as Held, Deed, comes, goes}
 use Rattle.letter.specs.Refusals.{capacity}
-use Rattle.letter.specs.declared.desks.Direction.{Direction}
-use Rattle.letter.specs.declared.desks.Direction.TheVariants.{Come, Go}
+use Rattle.letter.specs.declared.desks.Deed.{Deed as Asked}
 use Rattle.letter.specs.declared.refusals.Refusal.{Refusal}
 use Rattle.letter.specs.declared.refusals.Refusal.TheVariants.{Memory}
 
@@ -42,16 +40,11 @@ unfoldable pub Stopped : ℕ → ℕ → List ℕ → List Deed → Refusal → 
 Stopped p m ns [] e = ⊥
 Stopped p m ns (x ∷ xs) e = Stops p m ns x e ⊎ (Free p m ns x × Stopped p m (next ns x) xs e)
 
-abbrev pub deed : Direction → ℕ → Deed
-deed Come n = comes n
-deed Go n = goes n
-
-unfoldable pub deeds : Direction → List ℕ → List Deed
-deeds w [] = []
-deeds w (n ∷ ns) = deed w n ∷ deeds w ns
+abbrev pub Makes : (ℕ → Asked → Type 0) → (ℕ → Deed) → Type 0
+Makes made w = (n : ℕ) (x : Asked) → made n x → deed_of x ≡ w n
 
 unfoldable pub replacing : List ℕ → List ℕ → List Deed
-replacing gone come = deeds Go gone ++ deeds Come come
+replacing gone come = map goes gone ++ map comes come
 
 pub record Done (p m : ℕ) (x : Deed) (before after : List ℕ) (start finish : ℕ) : Type 0 where
   pub free : Free p m before x

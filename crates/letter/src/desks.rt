@@ -30,9 +30,9 @@ pub struct Desk<const P: u64> {
     ghost few: { length (items_of list) ≤ 60000 },
 }
 
-// Whether numbers come or go.
-#[derive(Clone, Copy)]
-pub(crate) enum Direction {
-    Come,
-    Go,
+// A number comes to a desk, or goes from it.
+#[derive(Clone, Copy, PartialEq, Eq, Debug)]
+pub enum Deed {
+    Comes(u64),
+    Goes(u64),
 }

@@ -3,6 +3,7 @@
 
 pub mod desks;
 pub mod letters;
+mod memory;
 pub mod refusals;
 pub mod row;
 pub mod slices;

@@ -1,6 +1,9 @@
 // Why a request is refused.
-ghost use Rattle.std.specs.Prelude.{◌≡◌};
-ghost use Rattle.letter.specs.Refusals.{number, place};
+ghost use Rattle.std.specs.Prelude.{◌≡◌, Some};
+ghost use Rattle.letter.specs.Refusals.{number, place, refusal_text};
+
+use crate::desks::CAPACITY;
+use std::fmt;
 
 #[derive(Clone, Copy, PartialEq, Eq, Debug)]
 pub enum Refusal {
@@ -26,6 +29,7 @@ pub enum Refusal {
 
 impl Refusal {
     // The number by which the refusal is told; 0 for want of memory, which is told by a word.
+    // Kept: refusals are told to C and in lines by a number, and this one definition gives each refusal's.
     pub fn number(self) -> u64
         ensures { result ≡ number self }
     {
@@ -54,8 +58,23 @@ impl Refusal {
             | Refusal::Comes(place)
             | Refusal::Goes(place)
             | Refusal::Site(place) => place,
-            Refusal::Full => 60000,
+            Refusal::Full => CAPACITY as u64,
             Refusal::Memory => 0,
+        }
+    }
+}
+
+impl fmt::Display for Refusal {
+    ghost output = { λ e. Some (refusal_text e) };
+
+    fn fmt<W: fmt::Write>(&self, f: &mut fmt::Formatter<W>) -> fmt::Result {
+        match self {
+            Refusal::Memory => f.write_str("out of memory"),
+            _ => {
+                let number = self.number();
+                let place = self.place();
+                write!(f, "refused {number} at {place}")
+            }
         }
     }
 }

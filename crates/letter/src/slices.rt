@@ -26,10 +26,8 @@ pub fn read_letter<const P: u64>(modulus: Modulus<P>, note: &[u64]) -> Result<Le
     if *count > P {
         return Err(Refusal::Letter(1));
     }
-    match Row::read(modulus, values, *m as usize) {
-        Ok(row) => Ok(Letter::new(*count, row)),
-        Err(i) => Err(Refusal::Letter(2 + i as u64)),
-    }
+    let row = Row::read(modulus, values, *m as usize).map_err(|i| Refusal::Letter(2 + i as u64))?;
+    Ok(Letter::new(*count, row))
 }
 
 // The numbers of the list at the beginning of a slice, or its first place at fault.
@@ -61,10 +59,7 @@ pub fn letter_of<const P: u64>(
     let Some(nodes) = Row::points_for(modulus, m) else {
         return Err(Refusal::Letter(0));
     };
-    let list = match list_in(here, P - m) {
-        Ok(list) => list,
-        Err(refusal) => return Err(refusal),
-    };
+    let list = list_in(here, P - m)?;
     let values = Row::values_of(modulus, nodes, list);
     Ok(Letter::new(list.len() as u64, values))
 }
@@ -80,7 +75,7 @@ pub fn write_letter<const P: u64>(letter: Letter<P>, out: &mut [u64]) -> Result<
     }
     out[0] = m as u64;
     out[1] = letter.count();
-    values.write(out, 2);
+    values.write(&mut out[2..]);
     Ok(2 + m)
 }
 

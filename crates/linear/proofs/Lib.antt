@@ -1,3 +1,4 @@
+pub mod Parts
 pub mod Places
 pub mod Sums
 pub mod Operations
@@ -6,6 +7,7 @@ pub mod Steps
 pub mod Columns
 pub mod Exchanges
 pub mod Echelons
+pub mod Eliminating
 pub mod Backwards
 pub mod Equations
 pub mod Verdicts

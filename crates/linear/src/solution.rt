@@ -1,9 +1,10 @@
 // A solution of a system: a value for each unknown.
 ghost use Rattle.std.specs.Prelude.{◌≡◌, ◌≤◌, length, take};
-ghost use Rattle.linear.specs.Cells.{numbers};
+ghost use Rattle.field.specs.Plain.{plain};
 
 use field::residue::Residue;
 
+// Kept: the reader has no heap, so the values are an array and a count and not a Vec.
 #[derive(Clone, Copy)]
 pub struct Solution<const P: u64> {
     pub(crate) values: [Residue<P>; 64],
@@ -15,8 +16,8 @@ pub struct Solution<const P: u64> {
 impl<const P: u64> Solution<P> {
     // The value of each unknown, in their order.
     pub fn values(&self) -> &[Residue<P>]
-        ensures { numbers result.now ≡ take self.now.unknowns (numbers self.now.values) }
+        ensures { plain result.now ≡ take self.now.unknowns (plain self.now.values) }
     {
-        &self.values[0..self.unknowns]
+        &self.values[..self.unknowns]
     }
 }

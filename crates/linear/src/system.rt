@@ -2,6 +2,8 @@
 ghost use Rattle.std.specs.Prelude.{◌≡◌, ◌≤◌, length};
 
 mod building;
+mod echelon;
+mod elimination;
 mod solving;
 
 use crate::row::Row;
@@ -11,6 +13,7 @@ use field::modulus::Modulus;
 pub const LIMIT: usize = 64;
 
 // The rows after the first `count` are not part of the system.
+// Kept: the reader has no heap, so the rows are an array and a count and not a Vec.
 #[derive(Drop)]
 pub struct System<const P: u64> {
     modulus: Modulus<P>,

@@ -8,15 +8,13 @@ use std::test::Fail;
 // Rows modulo 13 with many zeros, and now and then a row twice, so that all ranks come up.
 fn some_rows(random: &mut Random) -> [[u64; 65]; 4] {
     let mut rows = [[0u64; 65]; 4];
-    for i in 0..4usize {
-        let mut row = [0u64; 65];
-        for k in 0..4usize {
+    for row in rows.iter_mut() {
+        for cell in row[..4].iter_mut() {
             if random.below(2) == 0 {
-                row[k] = random.below(13);
+                *cell = random.below(13);
             }
         }
         row[64] = random.below(13);
-        rows[i] = row;
     }
     if random.below(3) == 0 {
         let mut copy = rows[0];
@@ -35,7 +33,7 @@ fn all_shapes(rt: HostRuntime) -> Result<(), Fail> {
         for unknowns in 0..5usize {
             for _ in 0..20u32 {
                 let all = some_rows(&mut random);
-                let rows = &all[0..count];
+                let rows = &all[..count];
                 match solved(prime_13(), rows, unknowns) {
                     Answer::Solution => with = with.wrapping_add(1),
                     Answer::NoSolution => {
@@ -54,12 +52,8 @@ fn all_shapes(rt: HostRuntime) -> Result<(), Fail> {
 
 fn dense_rows(random: &mut Random) -> [[u64; 65]; 64] {
     let mut rows = [[0u64; 65]; 64];
-    for i in 0..64usize {
-        let mut row = [0u64; 65];
-        for k in 0..65usize {
-            row[k] = random.below(65537);
-        }
-        rows[i] = row;
+    for cell in rows.iter_mut().flatten() {
+        *cell = random.below(65537);
     }
     rows
 }

@@ -2,23 +2,22 @@
 #![tactic(auto)]
 
 ghost use Rattle.std.specs.Prelude.{◌≡◌, ◌++◌, IfOk, string_bytes};
-ghost use Rattle.lines.specs.Text.{asked_text, difference_text, letter_text, list_text, malformed_text, not_understood_text, opened_text, refusal_text, spaced};
+ghost use Rattle.lines.specs.Text.{asked_text, difference_text, letter_text, list_text, malformed_text, not_understood_text, opened_text, spaced};
 ghost use Rattle.letter.specs.Letters.{letter_of};
+ghost use Rattle.letter.specs.Refusals.{refusal_text};
 ghost use Rattle.letter.specs.Rows.{numbers};
 
+use field::residue::Residue;
 use letter::letters::Letter;
 use letter::refusals::Refusal;
 use std::alloc::{AllocError, Global};
 
 // A line with each number after a space put to its end.
-pub fn push_spaced(line: String, numbers: &[u64]) -> Result<String, AllocError>
+pub fn push_spaced(mut line: String, numbers: &[u64]) -> Result<String, AllocError>
     ensures { IfOk result (λ s. string_bytes s ≡ string_bytes line ++ spaced numbers.now) }
 {
-    let mut line = line;
     for n in numbers {
-        let Ok(()) = write!(line, " {n}") else {
-            return Err(AllocError);
-        };
+        write!(line, " {n}")?;
     }
     Ok(line)
 }
@@ -43,14 +42,11 @@ fn values_of<const P: u64>(heap: Global, letter: Letter<P>) -> Result<Vec<u64>, 
     ensures { IfOk result (λ v. v.items ≡ numbers letter.entry.values) }
 {
     let row = letter.values();
-    let mut values = Vec::new(heap);
-    for i in 0..row.len() {
-        let Some(value) = row.get(i) else {
-            unreachable()
-        };
-        values.push(value.number())?;
-    }
-    Ok(values)
+    row.as_slice()
+        .iter()
+        .copied()
+        .map(Residue::number)
+        .collect(heap)
 }
 
 // The line of a letter.
@@ -65,12 +61,7 @@ pub fn sent_line<const P: u64>(heap: Global, letter: Letter<P>) -> Result<String
 pub fn refusal_line(heap: Global, refusal: Refusal) -> Result<String, AllocError>
     ensures { IfOk result (λ s. string_bytes s ≡ refusal_text refusal) }
 {
-    let number = refusal.number();
-    if number == 0 {
-        return String::from_str(heap, "out of memory");
-    }
-    let place = refusal.place();
-    format!(in heap; "refused {number} at {place}")
+    format!(in heap; "{refusal}")
 }
 
 // The line of an input that makes no sense from a place on.
@@ -101,9 +92,7 @@ pub fn asked_line(
     ensures { IfOk result (λ s. string_bytes s ≡ asked_text gone.now come.now values sent) }
 {
     let mut line = difference_line(heap, gone, come)?;
-    let Ok(()) = write!(line, " by {values}, {sent} sent") else {
-        return Err(AllocError);
-    };
+    write!(line, " by {values}, {sent} sent")?;
     Ok(line)
 }
 

@@ -1,66 +1,40 @@
 // A request in bytes, and the line that answers it: m, the allowance, the letter's count and its m values in three bytes each, and then the cards here in two bytes each. The low byte comes first.
-ghost use Rattle.std.specs.Prelude.{◌≡◌, ◌+◌, ◌*◌, ◌<◌, ◌≤◌, length, IfOk, MatchOption, slice_index};
+ghost use Rattle.std.specs.Prelude.{◌≡◌, ◌+◌, ◌*◌, ◌<◌, length, slice_index, IfOk};
 ghost use Rattle.read_cli.specs.Cards.{card_list};
 ghost use Rattle.read_cli.specs.Told.{Within};
 
 use decode::{Reply, read_letter};
+use letter::row::MOST_VALUES;
 use lines::{difference_line, refusal_line};
 use std::alloc::{AllocError, Global};
 
-// The number in the three bytes at a place, if they are there.
-fn word_at(input: &[u8], at: usize) -> Option<u64>
-    requires { at ≤ length input.now }
-    ensures { MatchOption result (length input.now < at + 3) (λ n. (n ≡ slice_index input.now at + 256 * slice_index input.now (at + 1) + 65536 * slice_index input.now (at + 2)) × ((at + 3 ≤ length input.now) × (n < 16777216))) }
+// The number that a word says.
+fn number(word: &[u8; 3]) -> u64
+    ensures value { result ≡ slice_index word.now 0 + 256 * slice_index word.now 1 + 65536 * slice_index word.now 2 }
+    ensures small { result < 16777216 }
 {
-    if input.len() - at < 3 {
-        return None;
-    }
-    let low = u64::from(input[at]) + 256 * u64::from(input[at + 1]);
-    Some(low + 65536 * u64::from(input[at + 2]))
+    let [low, middle, high] = *word;
+    u64::from(u32::from_le_bytes([low, middle, high, 0]))
 }
 
-// The words of the letter, as far as they are there: m, the count and the values.
-fn note_in(heap: Global, input: &[u8]) -> Result<Vec<u64>, AllocError> {
-    let mut note = Vec::new(heap);
-    let Some(m) = word_at(input, 0) else {
-        return Ok(note);
-    };
-    note.push(m)?;
-    // The allowance stands between m and the count.
-    let mut at = 6;
-    for _ in 0..=m {
-        if at > input.len() {
-            break;
-        }
-        let Some(word) = word_at(input, at) else {
-            break;
-        };
-        note.push(word)?;
-        at += 3;
-    }
-    Ok(note)
-}
-
-// The bytes of the cards, after a letter of m values.
-fn cards_in(input: &[u8], m: u64) -> &[u8]
+// The words of the letter, as far as they are there: m, the count and the values. The allowance stands between m and the count.
+fn note_in(heap: Global, words: &[[u8; 3]], m: u64) -> Result<Vec<u64>, AllocError>
     requires { m < 16777216 }
 {
-    let start = 9 + 3 * m as usize;
-    if start > input.len() {
-        return &[];
-    }
-    &input[start..]
+    let rest = words.iter().skip(2).take(m as usize + 1);
+    words.iter().take(1).chain(rest).map(number).collect(heap)
 }
 
 // The cards as a list: their number, which counts one that is cut short, and those that are whole.
 fn list_of(heap: Global, cards: &[u8]) -> Result<Vec<u64>, AllocError>
     ensures { IfOk result (λ v. v.items ≡ card_list cards.now) }
 {
+    let (whole, _) = cards.as_chunks::<2>();
     let mut list = Vec::new(heap);
-    list.push((cards.len() / 2 + cards.len() % 2) as u64)?;
-    for i in 0..cards.len() / 2 {
-        let low = u64::from(cards[2 * i]);
-        list.push(low + 256 * u64::from(cards[2 * i + 1]))?;
+    list.push(cards.len().div_ceil(2) as u64)?;
+    for card in whole {
+        let n = u64::from(u16::from_le_bytes(*card));
+        list.push(n)?;
     }
     Ok(list)
 }
@@ -80,17 +54,16 @@ fn line_of(heap: Global, reply: Reply, out: &[u64]) -> Result<String, AllocError
     }
 }
 
-// The line that answers a request.
+// The line that answers a request. Where m or the allowance is cut short, it counts as 0.
 pub fn answer(heap: Global, input: &[u8]) -> Result<String, AllocError> {
-    let note = note_in(heap, input)?;
-    let m = word_at(input, 0).unwrap_or(0);
-    let allowance = if input.len() < 6 {
-        0
-    } else {
-        word_at(input, 3).unwrap_or(0)
-    };
-    let list = list_of(heap, cards_in(input, m))?;
-    let mut out = [0; 64];
+    let (words, _) = input.as_chunks::<3>();
+    let m = words.first().map_or(0, number);
+    let allowance = words.get(1).map_or(0, number);
+    let note = note_in(heap, words, m)?;
+    // The cards stand after three words and the m values.
+    let cards = input.get(3 * (3 + m as usize)..).unwrap_or(&[]);
+    let list = list_of(heap, cards)?;
+    let mut out = [0; MOST_VALUES];
     let reply = read_letter(note.as_slice(), list.as_slice(), &mut out, allowance);
     line_of(heap, reply, &out)
 }

@@ -1,16 +1,16 @@
 -- The words of requests: which request they are of, and that its text has them.
-use Rattle.std.proofs.Common.{◌≡◌, ℕ, ◌+◌, ◌<◌, Bool, true, false, cond, not, ◌&&◌, eqb, ltb, List, [], ◌∷◌, ◌++◌, length, get_or, Some, None, codes, decimal, All, Option, sym, refl, ap, ◌∙◌, subst, arith}
+use Rattle.std.proofs.Common.{◌≡◌, ℕ, ◌+◌, ◌<◌, Bool, true, false, cond, not, ◌&&◌, eqb, ltb, List, [], ◌∷◌, ◌++◌, length, drop, get_or, Some, None, codes, decimal, All, Option, sym, refl, ap, ◌∙◌, subst, arith}
 use Rattle.std.proofs.lemmas.Fmt.{decimal_is_IsNumeral, decimal_nonempty}
 use Rattle.std.proofs.lemmas.List.Elements.{All-cons, All-head, All-nil, All-tail}
 use Rattle.std.proofs.lemmas.Bool.{and_parts, ltb-true, not-true}
 use Rattle.std.specs.Str.Parse.{digits_value}
-use Rattle.script.specs.Arguments.{verb_word}
-use Rattle.script.specs.Reads.{Any, Fits, Reads}
+use Rattle.std.specs.Option.{option_map}
+use Rattle.script.specs.Arguments.{FitBoth, FitTwo, pair, pair_and_way, single}
+use Rattle.script.specs.Reads.{Fits, Reads}
 use Rattle.script.specs.Requests.{InRange, Understood, after_spaces, spaced, text_of, way_word, words_of}
 use Rattle.script.specs.Words.{blank, words}
 use Rattle.script.specs.declared.Request.{Request}
 use Rattle.script.specs.declared.Request.TheVariants.{Open, Comes, Goes, Ask, Letter}
-use Rattle.script.specs.declared.Verb.{Verb}
 use Rattle.script.specs.declared.Way.{Way}
 use Rattle.script.specs.declared.Way.TheVariants.{Take, Join}
 use Rattle.script.proofs.Cuts.{Alike, Ended, words_blanks, words_front, words_none}
@@ -162,26 +162,86 @@ read_back line (Some s) said q small is =
 pub understood : (line : List ℕ) (r : Option Request) → Reads InRange words_of (words line) r → Understood line r
 understood line r said = record { says = said; written = read_back line r said }
 
--- the first word of a request
-abbrev verb : Request → Verb
-verb (Open n) = Verb.Open
-verb (Comes i n) = Verb.Comes
-verb (Goes i n) = Verb.Goes
-verb (Ask i j w) = Verb.Ask
-verb (Request.List i) = Verb.List
-verb (Letter i m) = Verb.Letter
+-- requests of a kind: their first word, and what is written after it
+pub record Kind {A : Type 0} (w : List ℕ) (Fine : A → Type 0) (write : A → List (List ℕ)) (make : A → Request) : Type 0 where
+  range : (a : A) → Fine a → InRange (make a)
+  says : (a : A) → words_of (make a) ≡ w ∷ write a
+  back : List (List ℕ) → A
+  only : (ws : List (List ℕ)) (q : Request) → InRange q → w ∷ ws ≡ words_of q → Fine (back ws) × (ws ≡ write (back ws))
 
-verb_first : (q : Request) → (ws : List (List ℕ)) × (words_of q ≡ verb_word (verb q) ∷ ws)
-verb_first (Open n) = (_, refl)
-verb_first (Comes i n) = (_, refl)
-verb_first (Goes i n) = (_, refl)
-verb_first (Ask i j w) = (_, refl)
-verb_first (Request.List i) = (_, refl)
-verb_first (Letter i m) = (_, refl)
+pub by_kind : {A : Type 0} {w : List ℕ} {Fine : A → Type 0} {write : A → List (List ℕ)} {make : A → Request} →
+    Kind w Fine write make → (v : List ℕ) (ws : List (List ℕ)) (r : Option A) (s : Option Request) → v ≡ w →
+    Reads Fine write ws r → s ≡ option_map make r → Reads InRange words_of (v ∷ ws) s
+by_kind kind v ws None s is none mapped =
+    rw mapped
+    (λ q small e.
+    let after = kind.only ws q small (ap (λ u. u ∷ ws) (sym is) ∙ e) in
+    none (kind.back ws) after.0 after.1)
+by_kind {w = w} kind v ws (Some a) s is read mapped =
+    rw mapped
+    (kind.range a read.0, ap (λ u. u ∷ ws) is ∙ ap (λ us. w ∷ us) read.1 ∙ sym (kind.says a))
+
+pub opens : Kind (codes "open") Fits single Open
+opens =
+    record {
+      range = λ n small. small;
+      says = λ n. refl;
+      back = λ ws. digits_value 10 (get_or ws 0 []);
+      only = λ ws q small e. let t = of_that _ q small e in (t.range, ap (drop 1) t.is);
+    }
+
+pub lists : Kind (codes "list") Fits single Request.List
+lists =
+    record {
+      range = λ n small. small;
+      says = λ n. refl;
+      back = λ ws. digits_value 10 (get_or ws 0 []);
+      only = λ ws q small e. let t = of_that _ q small e in (t.range, ap (drop 1) t.is);
+    }
+
+pub comes : Kind (codes "comes") FitBoth pair (λ p. Comes p.0 p.1)
+comes =
+    record {
+      range = λ p small. small;
+      says = λ p. refl;
+      back = pair_from;
+      only = λ ws q small e. let t = of_that _ q small e in (t.range, ap (drop 1) t.is);
+    }
+
+pub goes : Kind (codes "goes") FitBoth pair (λ p. Goes p.0 p.1)
+goes =
+    record {
+      range = λ p small. small;
+      says = λ p. refl;
+      back = pair_from;
+      only = λ ws q small e. let t = of_that _ q small e in (t.range, ap (drop 1) t.is);
+    }
+
+pub letters : Kind (codes "letter") FitBoth pair (λ p. Letter p.0 p.1)
+letters =
+    record {
+      range = λ p small. small;
+      says = λ p. refl;
+      back = pair_from;
+      only = λ ws q small e. let t = of_that _ q small e in (t.range, ap (drop 1) t.is);
+    }
+
+pub asks : Kind (codes "ask") FitTwo pair_and_way (λ t. Ask t.0 t.1 t.2)
+asks =
+    record {
+      range = λ t small. small;
+      says = λ t. refl;
+      back = pair_and_way_from;
+      only = λ ws q small e. let t = of_that _ q small e in (t.range, ap (drop 1) t.is);
+    }
+
+some_words : (q : Request) → 0 < length (words_of q)
+some_words (Open n) = omega arith
+some_words (Comes i n) = omega arith
+some_words (Goes i n) = omega arith
+some_words (Ask i j w) = omega arith
+some_words (Request.List i) = omega arith
+some_words (Letter i m) = omega arith
 
 pub no_word : (q : Request) → [] ≡ words_of q → ⊥
-no_word q is = let first = (verb_first q).1 in let z : ◌≡◌ {A = ℕ} 0 1 = cc in omega arith
-
-pub no_verb : (w : List ℕ) (ws : List (List ℕ)) → ((v : Verb) → Any v → w ≡ verb_word v → ⊥) →
-    (q : Request) → w ∷ ws ≡ words_of q → ⊥
-no_verb w ws none q is = let first = (verb_first q).1 in none (verb q) tt (cc)
+no_word q is = omega (arith, some_words q, ap length is)

@@ -1,25 +1,11 @@
--- The words of a request one by one, as its reader goes through them. Assumes nothing: these are definitions.
+-- The words of a request after the first, as its reader goes through them. Assumes nothing: these are definitions.
 --
---   verb_word v                  the first word
---   single, pair, pair_and_way   the words after it: a number, two, or two and a way
+--   single, pair, pair_and_way   a number, two, or two and a way
 --   FitBoth, FitTwo              the numbers of the last two are below 2^64
-use Rattle.std.specs.Prelude.{ℕ, List, [], ◌∷◌, codes, decimal}
+use Rattle.std.specs.Prelude.{ℕ, List, [], ◌∷◌, decimal}
 use Rattle.script.specs.Reads.{Fits}
 use Rattle.script.specs.Requests.{way_word}
-use Rattle.script.specs.declared.Verb.{Verb}
-use Rattle.script.specs.declared.Verb.TheVariants.{Open, Comes, Goes, Ask, Letter}
 use Rattle.script.specs.declared.Way.{Way}
-
-abbrev pub verb_word : Verb → List ℕ
-verb_word Open = codes "open"
-verb_word Comes = codes "comes"
-verb_word Goes = codes "goes"
-verb_word Ask = codes "ask"
-verb_word Verb.List = codes "list"
-verb_word Letter = codes "letter"
-
-abbrev pub one_way : Way → List (List ℕ)
-one_way w = way_word w ∷ []
 
 abbrev pub single : ℕ → List (List ℕ)
 single n = decimal n ∷ []

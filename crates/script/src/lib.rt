@@ -1,8 +1,8 @@
 // Requests to sites, one to a line of text.
 #![tactic(auto)]
 
-ghost use Rattle.std.specs.Prelude.{◌≡◌, ℕ, List, ◌∷◌, decimal, MatchOption, ◌≢◌};
-ghost use Rattle.script.specs.Arguments.{FitBoth, FitTwo, one_way, pair, pair_and_way, single, verb_word};
+ghost use Rattle.std.specs.Prelude.{◌≡◌, ℕ, List, [], ◌∷◌, decimal, MatchOption, ◌≢◌};
+ghost use Rattle.script.specs.Arguments.{FitBoth, FitTwo, pair, pair_and_way, single};
 ghost use Rattle.script.specs.Reads.{Any, Fits, Reads};
 ghost use Rattle.script.specs.Requests.{InRange, Understood, way_word, words_of};
 ghost use Rattle.script.specs.Words.{words};
@@ -38,28 +38,22 @@ pub enum Request {
     Letter(u64, u64),
 }
 
-// The first word of a request.
-enum Verb {
-    Open,
-    Comes,
-    Goes,
-    Ask,
-    List,
-    Letter,
-}
-
-fn verb_of(word: &[u8]) -> Option<Verb>
-    ensures { Reads Any verb_word word.now result }
+fn way_of(word: &[u8]) -> Option<Way>
+    ensures { Reads Any way_word word.now result }
 {
     match word {
-        b"open" => Some(Verb::Open),
-        b"comes" => Some(Verb::Comes),
-        b"goes" => Some(Verb::Goes),
-        b"ask" => Some(Verb::Ask),
-        b"list" => Some(Verb::List),
-        b"letter" => Some(Verb::Letter),
+        b"take" => Some(Way::Take),
+        b"join" => Some(Way::Join),
         _ => None,
     }
+}
+
+// The word that is all of a text.
+fn one_word(text: &[u8]) -> Option<&[u8]>
+    ensures { MatchOption result ((w : List ℕ) → words text.now ≢ w ∷ []) (λ w. words text.now ≡ w.now ∷ []) }
+{
+    let (word, rest) = split_word(text)?;
+    split_word(rest).is_none().then_some(word)
 }
 
 // The number that is the first word of a text, and what is left after it.
@@ -67,19 +61,14 @@ fn split_number(text: &[u8]) -> Option<(u64, &[u8])>
     ensures { MatchOption result ((n : ℕ) (ws : List (List ℕ)) → Fits n → words text.now ≢ decimal n ∷ ws) (λ p. Fits p.0 × (words text.now ≡ decimal p.0 ∷ words p.1.now)) }
 {
     let (word, rest) = split_word(text)?;
-    let n = number(word)?;
-    Some((n, rest))
+    Some((number(word)?, rest))
 }
 
 // The number that is all of a text.
 fn one_number(text: &[u8]) -> Option<u64>
     ensures { Reads Fits single (words text.now) result }
 {
-    let (n, rest) = split_number(text)?;
-    match split_word(rest) {
-        None => Some(n),
-        Some(_) => None,
-    }
+    number(one_word(text)?)
 }
 
 // The two numbers that are all of a text.
@@ -91,66 +80,28 @@ fn two_numbers(text: &[u8]) -> Option<(u64, u64)>
     Some((first, second))
 }
 
-fn way_of(word: &[u8]) -> Option<Way>
-    ensures { Reads Any way_word word.now result }
-{
-    match word {
-        b"take" => Some(Way::Take),
-        b"join" => Some(Way::Join),
-        _ => None,
-    }
-}
-
-// The way that is all of a text.
-fn one_way(text: &[u8]) -> Option<Way>
-    ensures { Reads Any one_way (words text.now) result }
-{
-    let (word, rest) = split_word(text)?;
-    match split_word(rest) {
-        None => way_of(word),
-        Some(_) => None,
-    }
-}
-
 // The two numbers and the way that are all of a text.
 fn two_numbers_way(text: &[u8]) -> Option<(u64, u64, Way)>
     ensures { Reads FitTwo pair_and_way (words text.now) result }
 {
     let (first, rest) = split_number(text)?;
     let (second, rest) = split_number(rest)?;
-    let way = one_way(rest)?;
+    let way = way_of(one_word(rest)?)?;
     Some((first, second, way))
 }
 
-// The request that a verb and the text after it say.
-fn request_of(verb: Verb, text: &[u8]) -> Option<Request>
-    ensures { Reads InRange words_of (verb_word verb ∷ words text.now) result }
+// The request that a word and the text after it say.
+fn request_of(verb: &[u8], text: &[u8]) -> Option<Request>
+    ensures { Reads InRange words_of (verb.now ∷ words text.now) result }
 {
     match verb {
-        Verb::Open => {
-            let sites = one_number(text)?;
-            Some(Request::Open(sites))
-        }
-        Verb::Comes => {
-            let (site, n) = two_numbers(text)?;
-            Some(Request::Comes(site, n))
-        }
-        Verb::Goes => {
-            let (site, n) = two_numbers(text)?;
-            Some(Request::Goes(site, n))
-        }
-        Verb::Ask => {
-            let (site, other, way) = two_numbers_way(text)?;
-            Some(Request::Ask(site, other, way))
-        }
-        Verb::List => {
-            let site = one_number(text)?;
-            Some(Request::List(site))
-        }
-        Verb::Letter => {
-            let (site, values) = two_numbers(text)?;
-            Some(Request::Letter(site, values))
-        }
+        b"open" => one_number(text).map(Request::Open),
+        b"comes" => two_numbers(text).map(|(site, n)| Request::Comes(site, n)),
+        b"goes" => two_numbers(text).map(|(site, n)| Request::Goes(site, n)),
+        b"ask" => two_numbers_way(text).map(|(site, other, way)| Request::Ask(site, other, way)),
+        b"list" => one_number(text).map(Request::List),
+        b"letter" => two_numbers(text).map(|(site, values)| Request::Letter(site, values)),
+        _ => None,
     }
 }
 
@@ -158,7 +109,6 @@ fn request_of(verb: Verb, text: &[u8]) -> Option<Request>
 pub fn parse(line: &[u8]) -> Option<Request>
     ensures { Understood line.now result }
 {
-    let (word, rest) = split_word(line)?;
-    let verb = verb_of(word)?;
+    let (verb, rest) = split_word(line)?;
     request_of(verb, rest)
 }

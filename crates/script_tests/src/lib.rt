@@ -58,6 +58,7 @@ mod tests {
         says_nothing(&rt, b"open +3");
         says_nothing(&rt, b"open -3");
         says_nothing(&rt, b"open 3a");
+        says_nothing(&rt, b"open 3\xff");
         says_nothing(&rt, b"open 1:2");
         says_nothing(&rt, b"goes x 5");
     }

@@ -1,5 +1,5 @@
 -- When one site asks another one: what is taken up, what is in the way, and when the true difference is told.
-use Rattle.std.proofs.Common.{◌≡◌, ℕ, ◌+◌, ◌-◌, ◌<◌, ◌≤◌, Bool, true, ◌⊎◌, List, [], ◌∷◌, length, refl, ap, ◌∙◌, subst, inl, inr, arith}
+use Rattle.std.proofs.Common.{◌≡◌, ℕ, ◌+◌, ◌-◌, ◌<◌, ◌≤◌, Bool, true, ◌⊎◌, List, [], ◌∷◌, length, Some, None, Ok, Err, refl, ap, ◌∙◌, subst, inl, inr, arith}
 use Rattle.std.proofs.lemmas.List.{get_or-set_same, get_or-set_other}
 use Rattle.std.proofs.lemmas.Bool.{cases_order}
 use Rattle.std.proofs.lemmas.Bool.Decides.{nat_tests}
@@ -26,7 +26,6 @@ use Rattle.sites.specs.Taking.{taken_up, Untaken}
 use Rattle.sites.specs.declared.ladder.Reading.{Reading}
 use Rattle.sites.specs.declared.ladder.Way.{Way}
 use Rattle.sites.specs.declared.ladder.Way.TheVariants.{Take, Join}
-use Rattle.sites.specs.declared.network.asking.Answer.TheVariants.{Together, More, Refused}
 use Rattle.sites.specs.declared.site.Site.{Site}
 use Rattle.sites.proofs.Bringing.{found_explains, explained_halts, left_length, few_there}
 use Rattle.sites.proofs.Climbing.{climbed_true, climbed_somewhere, near_truthful}
@@ -102,7 +101,7 @@ met_by Take there here gone come r s gone_is come_is =
 met_by Join there here gone come r s gone_is come_is = ap (λ t. put_all t here) come_is ∙ put_only there here s
 
 -- before a letter is read
-pub unasked_truly : (p i j : ℕ) (w : Way) (ls : List (List ℕ)) (e : Refusal) → (Between ls i j → ⊥) → AskTruly p i j w ls ls (Refused e)
+pub unasked_truly : (p i j : ℕ) (w : Way) (ls : List (List ℕ)) (e : Refusal) → (Between ls i j → ⊥) → AskTruly p i j w ls ls (Err e)
 unasked_truly p i j w ls e not =
     record { near = λ between close truthful. absurd (not between); far = λ away truthful. tt; others = λ k apart. refl }
 
@@ -111,6 +110,18 @@ pub record Met {p : ℕ} (there here : Site p) (ls : List (List ℕ)) (i j : ℕ
   pub between : Between ls i j
   pub there_is : site_list there ≡ list_at ls j
   pub here_is : site_list here ≡ list_at ls i
+
+pub met_at : {p : ℕ} (there here : Site p) (ls : List (List ℕ)) (i j : ℕ)
+    → (i < length ls) × (site_list here ≡ list_at ls i)
+    → (j < length ls) × (site_list there ≡ list_at ls j)
+    → (i ≡ j → ⊥)
+    → Met there here ls i j
+met_at there here ls i j asker asked apart =
+    record {
+      between = record { asker = asker.0; asked = asked.0; apart = apart };
+      there_is = asked.1;
+      here_is = asker.1;
+    }
 
 module _ {p : ℕ} (there here : Site p) (ls : List (List ℕ)) (i j : ℕ) (w : Way) (two : Met there here ls i j) where
   rises : (x : Site p) (ns : List ℕ) → site_list x ≡ ns → rising ns ≡ true
@@ -146,7 +157,7 @@ module _ {p : ℕ} (there here : Site p) (ls : List (List ℕ)) (i j : ℕ) (w :
       go (inr (inl more)) = truthful more
       go (inr (inr fewer)) = near_truthful p (list_at ls j) (list_at ls i) (omega arith)
 
-  pub together_truly : (ls₁ : List (List ℕ)) (r : Reading) → AskSays p i j w ls ls₁ (Together r) → AskTruly p i j w ls ls₁ (Together r)
+  pub together_truly : (ls₁ : List (List ℕ)) (r : Reading) → AskSays p i j w ls ls₁ (Ok (Some r)) → AskTruly p i j w ls ls₁ (Ok (Some r))
   together_truly ls₁ r says =
       let answers = says.1.0 in
       let after = says.1.1 in
@@ -164,7 +175,7 @@ module _ {p : ℕ} (there here : Site p) (ls : List (List ℕ)) (i j : ℕ) (w :
         others = λ k apart. ap (λ t. list_at t k) after ∙ get_or-set_other ls i k (taken_up w (list_at ls i) (gone_of r) (come_of r)) [] apart;
       }
 
-  pub more_truly : (ls₁ : List (List ℕ)) → AskSays p i j w ls ls₁ More → AskTruly p i j w ls ls₁ More
+  pub more_truly : (ls₁ : List (List ℕ)) → AskSays p i j w ls ls₁ (Ok None) → AskTruly p i j w ls ls₁ (Ok None)
   more_truly ls₁ says =
       record {
         near = λ between close truthful.
@@ -193,7 +204,7 @@ module _ {p : ℕ} (there here : Site p) (ls : List (List ℕ)) (i j : ℕ) (w :
   pub unmet_truly : (ls₁ : List (List ℕ)) (e : Refusal)
       → ls₁ ≡ ls
       → Unmet p w (list_at ls j) (list_at ls i) e
-      → AskTruly p i j w ls ls₁ (Refused e)
+      → AskTruly p i j w ls ls₁ (Err e)
   unmet_truly ls₁ e same unmet =
       record {
         near = λ between close truthful. unmet_near e truthful unmet;

@@ -1,5 +1,5 @@
 -- Two desks and one letter: what the explanation that is told does to the list here, and when it is the true difference.
-use Rattle.std.proofs.Common.{◌≡◌, ℕ, ◌+◌, ◌-◌, ◌*◌, ◌<◌, ◌≤◌, true, ◌⊎◌, List, length, Option, sym, ap, ◌∙◌, subst, inl, inr, arith}
+use Rattle.std.proofs.Common.{◌≡◌, ℕ, ◌+◌, ◌-◌, ◌*◌, ◌<◌, ◌≤◌, true, ◌⊎◌, List, length, Some, None, Ok, Err, Option, sym, ap, ◌∙◌, subst, inl, inr, arith}
 use mathlib.Core.Logic.{∥∥₁_elim}
 use mathlib.Core.HLevel.{⊥_prop}
 use Rattle.std.proofs.lemmas.Bool.Decides.{nat_tests}
@@ -27,9 +27,7 @@ use Rattle.decode.specs.Beside.{ToldBy, Differs, Read, Unread}
 use Rattle.decode.specs.declared.numbers.Difference.{Difference}
 use Rattle.decode.specs.Numbers.{listed}
 use Rattle.decode.proofs.Evaluation.{below_weaker, numbers_length}
-use Rattle.sites.specs.Together.{AskedWell, Unasked, Unbrought, TogetherSays, Truly}
-use Rattle.sites.specs.declared.together.Outcome.{Outcome}
-use Rattle.sites.specs.declared.together.Outcome.TheVariants.{Brought, More, Refused}
+use Rattle.sites.specs.Together.{Outcome, AskedWell, Unasked, Unbrought, TogetherSays, Truly}
 
 pub found_explains : (p m d : ℕ) (l : Letter) (list gone come : List ℕ) → Found p m d l list gone come → Explains p m l list gone come
 found_explains p m d l list gone come (these one few) = one
@@ -172,7 +170,7 @@ truly : (p m d : ℕ) (there : List ℕ) (k : ℕ) (here : Desk) (j : ℕ) (here
     → all_below (p - j) here.list ≡ true
     → TogetherSays p m d there k here j here₁ o
     → Truly p m d there k here j here₁ o
-truly p m d there k here j here₁ (Brought f) prime room r s small small' says =
+truly p m d there k here j here₁ (Ok (Some f)) prime room r s small small' says =
     let asked = says.0 in
     let below = below_weaker (p - k) (p - m) there (omega (arith, asked.there)) small in
     record {
@@ -184,7 +182,7 @@ truly p m d there k here j here₁ (Brought f) prime room r s small small' says 
           (below_weaker (p - j) (p - m) here.list (omega (arith, asked.here)) small') apart close says.1.told.found;
       unhindered = λ e close well equal is. let z : ◌≡◌ {A = ℕ} 0 1 = cc in absurd (omega arith);
     }
-truly p m d there k here j here₁ More prime room r s small small' says =
+truly p m d there k here j here₁ (Ok None) prime room r s small small' says =
     let asked = says.0 in
     record {
       near = λ close.
@@ -192,7 +190,7 @@ truly p m d there k here j here₁ More prime room r s small small' says =
       far = λ apart close. tt;
       unhindered = λ e close well equal is. let z : ◌≡◌ {A = ℕ} 0 1 = cc in absurd (omega arith);
     }
-truly p m d there k here j here₁ (Refused e) prime room r s small small' says =
+truly p m d there k here j here₁ (Err e) prime room r s small small' says =
     record {
       near = λ close. tt;
       far = λ apart close. tt;
@@ -214,16 +212,18 @@ unasked_here m n d k j e enough is (inl (told, short)) = inl (told, inr (omega a
 unasked_here m n d k j e enough is (inr (told, (kept, over))) = inr (told, (enough, omega (arith, kept), omega (arith, over)))
 
 -- what was read at the desk here, of the letter of the list there
-pub read_well : (p m n d : ℕ) (l : Letter) (there here : List ℕ) (k j : ℕ) (o : Option Difference)
-    → m ≤ k
-    → n ≡ m
-    → l ≡ letter p m there
-    → Read p n d l here j o
-    → AskedWell m d k j × Differs p m d (letter p m there) here o
-read_well p m n d l there here k j o enough is says read = (
-  record { there = enough; here = omega (arith, read.kept); allowed = omega (arith, read.allowed) },
-  subst (λ (t : Letter). Differs p m d t here o) says (subst (λ (t : ℕ). Differs p t d l here o) is read.says),
-)
+pub read_there : {p : ℕ} (m d : ℕ) (l : Sent p) (there here : List ℕ) (k j : ℕ) (o o' : Option Difference)
+    → o ≡ o'
+    → (m ≤ k) × (letter_of l ≡ letter p m there)
+    → Read p l.values.len d (letter_of l) here j o
+    → AskedWell m d k j × Differs p m d (letter p m there) here o'
+read_there {p} m d l there here k j o o' same sent read =
+    let size = letter_size m l there sent.1 in (
+      record { there = sent.0; here = omega (arith, size, read.kept); allowed = omega (arith, size, read.allowed) },
+      subst (λ (t : Letter). Differs p m d t here o') sent.1
+          (subst (λ (t : ℕ). Differs p t d (letter_of l) here o') size
+          (subst (λ (t : Option Difference). Differs p l.values.len d (letter_of l) here t) same read.says)),
+    )
 
 -- what is told of two desks is told truly
 pub truly_told : {p : ℕ} (m d : ℕ) (there here : Kept p) (after : Desk) (o : Outcome)

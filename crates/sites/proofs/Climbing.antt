@@ -1,5 +1,5 @@
 -- Letters of one rung after the other: what the first that can be read tells, and when it is the true difference.
-use Rattle.std.proofs.Common.{◌≡◌, ℕ, zero, suc, ◌+◌, ◌-◌, ◌*◌, ◌<◌, ◌≤◌, true, ◌⊎◌, List, [], ◌∷◌, get_or, drop, sym, subst, inl, inr, arith}
+use Rattle.std.proofs.Common.{◌≡◌, ℕ, zero, suc, ◌+◌, ◌-◌, ◌*◌, ◌<◌, ◌≤◌, true, ◌⊎◌, List, [], ◌∷◌, get_or, drop, Ok, Err, Result, is_ok, sym, refl, subst, inl, inr, arith, MatchResult}
 use Rattle.std.proofs.lemmas.List.{drop_all, drop_more}
 use Rattle.std.proofs.lemmas.Bool.Decides.{nat_tests}
 use Rattle.std.proofs.lemmas.Bool.{cases_order}
@@ -63,10 +63,19 @@ climbing_end p there here i sent so_far ended =
     so_far.none (subst (λ (ms : List ℕ). Unanswered p there here ms) (sym (drop_all i rungs ended)) tt)
 
 -- a rung is always read, at sites that keep sixty-four values
-pub rung_unread : (m n k : ℕ) (e : Refusal) → 1 ≤ m → m ≤ 64 → n ≡ m → k ≡ 64 → Unread n (m - 1) k e → ⊥
+rung_unread : (m n k : ℕ) (e : Refusal) → 1 ≤ m → m ≤ 64 → n ≡ m → k ≡ 64 → Unread n (m - 1) k e → ⊥
 unfolding Unread
 rung_unread m n k e some few is size (inl (told, short)) = omega arith
 rung_unread m n k e some few is size (inr (told, (kept, over))) = omega arith
+
+pub always_read : {A : Type 0} (P : A → Type 0) (m n k : ℕ) (r : Result A Refusal)
+    → (1 ≤ m) × (m ≤ 64)
+    → n ≡ m
+    → k ≡ 64
+    → MatchResult r P (Unread n (m - 1) k)
+    → is_ok r ≡ true
+always_read P m n k (Ok x) fit is size read = refl
+always_read P m n k (Err e) fit is size unread = absurd (rung_unread m n k e fit.0 fit.1 is size unread)
 
 rung_fits : (m : ℕ) → has rungs m ≡ true → (1 ≤ m) × (m ≤ 64)
 unfolding has

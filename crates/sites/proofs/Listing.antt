@@ -1,12 +1,14 @@
 -- The lists of several sites, before and after a request.
-use Rattle.std.proofs.Common.{◌≡◌, ℕ, ◌<◌, List, [], ◌∷◌, map, length, get_or, set, Ok, Err, vec_items, vec_len, Result, sym, refl, ap, ◌∙◌, subst, inr, arith, MatchResult}
+use Rattle.std.proofs.Common.{◌≡◌, ℕ, ◌<◌, List, [], ◌∷◌, map, length, get_or, nat_lt, set, None, Some, Ok, Err, Option, is_some, ok_or, Bor, IfSome, vec_items, vec_len, Result, sym, refl, ap, ◌∙◌, subst, inr, arith, MatchResult}
 use Rattle.std.proofs.lemmas.List.{length-map, get_or-map, map-set, set-get_or}
+use Rattle.std.proofs.lemmas.Bool.Decides.{nat_tests}
 use Rattle.letter.specs.Desks.{desk_of}
 use Rattle.letter.specs.Exchanges.{Done, NotDone, Free, next}
 use Rattle.letter.specs.Letter.{Deed, letter}
 use Rattle.letter.specs.declared.refusals.Refusal.{Refusal}
+use Rattle.letter.specs.declared.refusals.Refusal.TheVariants.{Site as Absentee}
 use Rattle.letter.proofs.Keeping.{up_to_date}
-use Rattle.sites.specs.Network.{lists_of, letters_of, list_at, Right, Passed, NotPassed}
+use Rattle.sites.specs.Network.{Absent, lists_of, letters_of, list_at, Right, Passed, NotPassed}
 use Rattle.sites.specs.Site.{site_list}
 use Rattle.sites.specs.declared.network.Sites.{Sites}
 use Rattle.sites.specs.declared.site.Site.{Site}
@@ -72,3 +74,15 @@ passed {p = p} i x s after here here₁ start finish (Err e) inside is after_is 
       same = lists_kept s after i here₁ after_is all.same;
       why = inr (omega (arith, sites_count s), all.stops);
     }
+
+-- the site at a place, or that there is none
+pub found : {p : ℕ} (s : Sites p) (xs : List (Site p)) (i : ℕ) (o : Option (Bor (Site p)))
+    → xs ≡ vec_items s.sites
+    → is_some o ≡ nat_lt i (length xs)
+    → IfSome o (λ x. x.now ≡ get_or xs i x.now)
+    → MatchResult (ok_or o (Absentee i)) (λ x. (i < length (lists_of s)) × (site_list x.now ≡ list_at (lists_of s) i)) (Absent (lists_of s) i)
+unfolding Absent
+found s xs i None items has is = ((refl, refl), grind (arith, nat_tests, sites_count s, s.sites.ok.0))
+found s xs i (Some x) items has is =
+    let inside : i < vec_len s.sites = grind (arith, nat_tests, s.sites.ok.0) in
+    (omega (arith, inside, sites_count s), list_here s i x.now inside (rw items at is))

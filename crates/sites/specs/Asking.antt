@@ -1,6 +1,8 @@
 -- What comes of it when site i asks site j. The lists of all sites are ls before and ls₁ after; there is the list of site j
 -- and here that of site i. Assumes nothing: these are definitions.
 --
+--   Answer                  what is told: a reading that was taken up; none, where more differ than the longest letter can tell;
+--                           or the refusal
 --   Between ls i j          both sites are there, and are not the same
 --   Halted p w here come e  why the numbers that were told are not taken up: memory is wanting; one of them is not below p - 64,
 --                           told with 5; or lists put together would have more numbers than a list may have, told with 7
@@ -12,7 +14,7 @@
 --   AskTruly ..             the promise. Of at most 63 differences all are told and no others, and the list here is what it is to
 --                           be, if each rung that may be taken in is not; of up to 6 differences without any condition.
 --                           Of more, under that condition, nothing is told. No other list changes
-use Rattle.std.specs.Prelude.{◌≡◌, ℕ, ◌+◌, ◌-◌, ◌<◌, ◌≤◌, true, ◌⊎◌, List, length, ◌≢◌, slice_set}
+use Rattle.std.specs.Prelude.{◌≡◌, ℕ, ◌+◌, ◌-◌, ◌<◌, ◌≤◌, true, ◌⊎◌, List, length, ◌≢◌, Some, None, Ok, Err, Option, Result, slice_set}
 use Rattle.sorted.specs.Lists.{has, only, differ, put_all}
 use Rattle.letter.specs.Desks.{Told}
 use Rattle.letter.specs.Refusals.{capacity}
@@ -24,8 +26,9 @@ use Rattle.sites.specs.Taking.{taken_up}
 use Rattle.sites.specs.declared.ladder.Reading.{Reading}
 use Rattle.sites.specs.declared.ladder.Way.{Way}
 use Rattle.sites.specs.declared.ladder.Way.TheVariants.{Take, Join}
-use Rattle.sites.specs.declared.network.asking.Answer.{Answer}
-use Rattle.sites.specs.declared.network.asking.Answer.TheVariants.{Together, More, Refused}
+
+abbrev pub Answer : Type 0
+Answer = Result (Option Reading) Refusal
 
 pub record Between (ls : List (List ℕ)) (i j : ℕ) : Type 0 where
   pub asker : i < length ls
@@ -50,26 +53,26 @@ Unasked p i j w ls e =
     ⊎ (Between ls i j × Unmet p w (list_at ls j) (list_at ls i) e))
 
 abbrev pub AskSays : (p i j : ℕ) → Way → (ls ls₁ : List (List ℕ)) → Answer → Type 0
-AskSays p i j w ls ls₁ (Together r) =
+AskSays p i j w ls ls₁ (Ok (Some r)) =
     Between ls i j
     × (Answers p (list_at ls j) (list_at ls i) rungs 0 r × (ls₁ ≡ slice_set ls i (taken_up w (list_at ls i) (gone_of r) (come_of r))))
-AskSays p i j w ls ls₁ More = Between ls i j × (Unanswered p (list_at ls j) (list_at ls i) rungs × (ls₁ ≡ ls))
-AskSays p i j w ls ls₁ (Refused e) = (ls₁ ≡ ls) × Unasked p i j w ls e
+AskSays p i j w ls ls₁ (Ok None) = Between ls i j × (Unanswered p (list_at ls j) (list_at ls i) rungs × (ls₁ ≡ ls))
+AskSays p i j w ls ls₁ (Err e) = (ls₁ ≡ ls) × Unasked p i j w ls e
 
 abbrev pub met : Way → List ℕ → List ℕ → List ℕ
 met Take there here = there
 met Join there here = put_all there here
 
 abbrev pub Near : Way → (there here here₁ : List ℕ) → Answer → Type 0
-Near w there here here₁ (Together r) =
+Near w there here here₁ (Ok (Some r)) =
     (gone_of r ≡ only here there) × (come_of r ≡ only there here) × (here₁ ≡ met w there here)
-Near w there here here₁ More = ⊥
-Near w there here here₁ (Refused e) = (e ≡ Memory) ⊎ ((w ≡ Join) × Told 7 capacity e)
+Near w there here here₁ (Ok None) = ⊥
+Near w there here here₁ (Err e) = (e ≡ Memory) ⊎ ((w ≡ Join) × Told 7 capacity e)
 
 abbrev pub Far : Answer → Type 0
-Far (Together r) = ⊥
-Far More = Unit {0}
-Far (Refused e) = Unit {0}
+Far (Ok (Some r)) = ⊥
+Far (Ok None) = Unit {0}
+Far (Err e) = Unit {0}
 
 pub record AskTruly (p i j : ℕ) (w : Way) (ls ls₁ : List (List ℕ)) (a : Answer) : Type 0 where
   pub near :

@@ -15,7 +15,7 @@ pub struct Reading {
 }
 
 // What is done with a list that was read.
-#[derive(Clone, Copy)]
+#[derive(Clone, Copy, PartialEq, Eq, Debug)]
 pub enum Way {
     // It is taken for the own list.
     Take,

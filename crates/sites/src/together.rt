@@ -10,44 +10,26 @@ use letter::desks::Desk;
 use letter::refusals::Refusal;
 use std::alloc::Global;
 
-// What came of bringing a list over.
-#[derive(Clone, Copy)]
-pub enum Outcome {
-    // The numbers that went from the list here, and those that came.
-    Brought(Difference),
-    // More differ than were asked for.
-    More,
-    Refused(Refusal),
-}
-
-// Makes a letter of m values at the desk there, reads it at the desk here with the allowance d, and brings the list here over.
+// Makes a letter of m values at the desk there, reads it at the desk here with the allowance d, and brings the list here over:
+// by the numbers that went from the list here and those that came, or not at all where more than d differ.
 pub fn bring_together<const P: u64>(
     here: &mut Desk<P>,
     there: &Desk<P>,
     m: u64,
     d: u64,
     heap: Global,
-) -> Outcome
+) -> Result<Option<Difference>, Refusal>
     ensures says { TogetherSays P m d (desk_of there.now).list (desk_size there.now) (desk_of here.old) (desk_size here.old) (desk_of here.new) result }
     ensures truly { Truly P m d (desk_of there.now).list (desk_size there.now) (desk_of here.old) (desk_size here.old) (desk_of here.new) result }
     ensures size { desk_size here.new ≡ desk_size here.old }
     ensures right { UpToDate P (desk_size here.new) (desk_of here.new) }
     ensures promise { BroughtTogetherParity }
 {
-    let letter = match there.letter(m) {
-        Ok(letter) => letter,
-        Err(refusal) => return Outcome::Refused(refusal),
-    };
-    let found = match difference_beside(here, letter, d) {
-        Ok(found) => found,
-        Err(refusal) => return Outcome::Refused(refusal),
-    };
-    let Some(difference) = found else {
-        return Outcome::More;
+    let letter = there.letter(m)?;
+    let Some(difference) = difference_beside(here, letter, d)? else {
+        return Ok(None);
     };
     let mut tally = Tally::new();
-    match here.exchange(difference.gone(), difference.come(), &mut tally, heap) {
-        Ok(()) => Outcome::Brought(difference),
-        Err(refusal) => Outcome::Refused(refusal),
-    }
+    here.exchange(difference.gone(), difference.come(), &mut tally, heap)?;
+    Ok(Some(difference))
 }

@@ -8,9 +8,10 @@
 use Rattle.std.specs.Prelude.{◌≡◌, ℕ, ◌<◌, ◌≤◌, ◌⊎◌, List, [], length, replicate, Some, None, Ok, Err, codes, Option, Result, MatchResult}
 use Rattle.letter.specs.Desks.{Told}
 use Rattle.letter.specs.Letter.{Deed, comes, goes, letter}
+use Rattle.letter.specs.Refusals.{refusal_text}
 use Rattle.letter.specs.declared.refusals.Refusal.{Refusal}
-use Rattle.lines.specs.Text.{asked_text, letter_text, list_text, opened_text, refusal_text}
-use Rattle.sites.specs.Asking.{AskSays, AskTruly}
+use Rattle.lines.specs.Text.{asked_text, letter_text, list_text, opened_text}
+use Rattle.sites.specs.Asking.{Answer, AskSays, AskTruly}
 use Rattle.sites.specs.Ladder.{gone_of, come_of}
 use Rattle.sites.specs.Network.{Absent, NotOpened, NotPassed, Passed, list_at, lists_of}
 use Rattle.script.specs.declared.Request.{Request}
@@ -18,8 +19,6 @@ use Rattle.script.specs.declared.Request.TheVariants.{Open, Comes, Goes, Ask, Le
 use Rattle.script.specs.declared.Way.{Way as Said}
 use Rattle.sites.specs.declared.ladder.Way.{Way}
 use Rattle.sites.specs.declared.ladder.Way.TheVariants.{Take, Join}
-use Rattle.sites.specs.declared.network.asking.Answer.{Answer}
-use Rattle.sites.specs.declared.network.asking.Answer.TheVariants.{Together, More, Refused}
 use Rattle.sites.specs.declared.network.Sites.{Sites}
 
 unfoldable pub lists_in : Option (Sites 65537) → List (List ℕ)
@@ -53,9 +52,9 @@ LetterTold i m ls text =
     ⊎ ((e : Refusal) × ((text ≡ refusal_text e) × (Absent ls i e ⊎ ((i < length ls) × (64 < m) × Told 1 0 e))))
 
 abbrev pub answer_text : Answer → List ℕ
-answer_text (Together r) = asked_text (gone_of r) (come_of r) r.values r.sent
-answer_text More = codes "ask the valley"
-answer_text (Refused e) = refusal_text e
+answer_text (Ok (Some r)) = asked_text (gone_of r) (come_of r) r.values r.sent
+answer_text (Ok None) = codes "ask the valley"
+answer_text (Err e) = refusal_text e
 
 pub record AskTold (i j : ℕ) (w : Way) (ls ls₁ : List (List ℕ)) (text : List ℕ) : Type 0 where
   pub answer : Answer

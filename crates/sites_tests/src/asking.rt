@@ -1,10 +1,11 @@
 // Sites that ask each other.
 use field::modulus::{PRIME, prime_65537};
 use field::tally::Tally;
+use letter::desks::Deed;
 use letter::refusals::Refusal;
-use sites::ladder::Way;
+use sites::ladder::{Reading, Way};
 use sites::network::Sites;
-use sites::network::asking::Answer;
+use sites::site::Site;
 use std::alloc::Global;
 use std::process::Abort;
 use std::test::Fail;
@@ -36,7 +37,7 @@ fn takes(
     sent: u64,
 ) -> Result<(), Fail> {
     let mut sites = apart(heap, here, there)?;
-    let Answer::Together(reading) = sites.ask(0, 1, Way::Take, heap) else {
+    let Some(reading) = sites.ask(0, 1, Way::Take, heap)? else {
         return Err(Fail::new("nothing is told"));
     };
     assert_eq!(rt; reading.values, values);
@@ -69,7 +70,7 @@ fn long_rungs(rt: HostRuntime) -> Result<(), Fail> {
 fn beyond_the_longest_letter(rt: HostRuntime) -> Result<(), Fail> {
     let heap = rt.alloc();
     let mut sites = apart(heap, 32, 32)?;
-    let Answer::More = sites.ask(0, 1, Way::Take, heap) else {
+    let None = sites.ask(0, 1, Way::Take, heap)? else {
         return Err(Fail::new("not more"));
     };
     assert_eq!(rt; sites.list(0)?.len(), 2032);
@@ -81,7 +82,7 @@ fn beyond_the_longest_letter(rt: HostRuntime) -> Result<(), Fail> {
 fn put_together(rt: HostRuntime) -> Result<(), Fail> {
     let heap = rt.alloc();
     let mut sites = apart(heap, 3, 5)?;
-    let Answer::Together(reading) = sites.ask(0, 1, Way::Join, heap) else {
+    let Some(reading) = sites.ask(0, 1, Way::Join, heap)? else {
         return Err(Fail::new("nothing is told"));
     };
     assert_eq!(rt; reading.values, 16);
@@ -91,14 +92,18 @@ fn put_together(rt: HostRuntime) -> Result<(), Fail> {
     Ok(())
 }
 
-fn refused(rt: &impl Abort, answer: Answer, refusal: Refusal) -> Result<(), Fail> {
+fn refused(
+    rt: &impl Abort,
+    answer: Result<Option<Reading>, Refusal>,
+    refusal: Refusal,
+) -> Result<(), Fail> {
     match answer {
-        Answer::Refused(told) => {
+        Err(told) => {
             assert_eq!(rt; told, refusal);
             Ok(())
         },
-        Answer::Together(_) => Err(Fail::new("a letter is read")),
-        Answer::More => Err(Fail::new("more")),
+        Ok(Some(_)) => Err(Fail::new("a letter is read")),
+        Ok(None) => Err(Fail::new("more")),
     }
 }
 
@@ -117,6 +122,33 @@ fn no_such_site(rt: HostRuntime) -> Result<(), Fail> {
         Err(Refusal::Comes(65473))
     );
     assert_eq!(rt; sites.goes(0, 5, &mut tally), Err(Refusal::Goes(5)));
+    Ok(())
+}
+
+#[test]
+fn deeds(rt: HostRuntime) -> Result<(), Fail> {
+    let heap = rt.alloc();
+    let mut tally = Tally::new();
+    let mut sites = Sites::open(prime_65537(), 3, heap)?;
+    sites.does(1, Deed::Comes(5), &mut tally)?;
+    sites.does(1, Deed::Comes(9), &mut tally)?;
+    sites.does(1, Deed::Goes(5), &mut tally)?;
+    assert_eq!(rt; sites.list(1)?, [9].as_slice());
+    assert_eq!(rt;
+        sites.does(1, Deed::Goes(5), &mut tally),
+        Err(Refusal::Goes(5))
+    );
+    assert_eq!(rt;
+        sites.does(3, Deed::Goes(9), &mut tally),
+        Err(Refusal::Site(3))
+    );
+    let mut site = Site::open(prime_65537(), heap)?;
+    site.does(Deed::Comes(7), &mut tally)?;
+    assert_eq!(rt;
+        site.does(Deed::Comes(7), &mut tally),
+        Err(Refusal::Comes(7))
+    );
+    assert_eq!(rt; site.list(), [7].as_slice());
     Ok(())
 }
 
@@ -148,7 +180,7 @@ fn full_lists(rt: HostRuntime) -> Result<(), Fail> {
     refused(&rt, sites.ask(0, 1, Way::Join, heap), Refusal::Full)?;
     assert_eq!(rt; sites.list(0)?.first().copied(), Some(0));
     assert_eq!(rt; sites.list(0)?.len(), 60000);
-    let Answer::Together(reading) = sites.ask(0, 1, Way::Take, heap) else {
+    let Some(reading) = sites.ask(0, 1, Way::Take, heap)? else {
         return Err(Fail::new("nothing is told"));
     };
     assert_eq!(rt; reading.difference.gone(), [0].as_slice());

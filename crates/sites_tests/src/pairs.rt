@@ -1,9 +1,10 @@
 // Two desks brought together by one letter.
+use decode::Difference;
 use field::modulus::{PRIME, prime_65537};
 use field::tally::Tally;
 use letter::desks::Desk;
 use letter::refusals::Refusal;
-use sites::together::{Outcome, bring_together};
+use sites::together::bring_together;
 use std::alloc::Global;
 use std::process::Abort;
 use std::test::Fail;
@@ -28,7 +29,7 @@ fn brings(
 ) -> Result<(), Fail> {
     let mut here = desk_of(heap, 3, here)?;
     let other = desk_of(heap, 3, there)?;
-    let Outcome::Brought(difference) = bring_together(&mut here, &other, 3, 3, heap) else {
+    let Some(difference) = bring_together(&mut here, &other, 3, 3, heap)? else {
         return Err(Fail::new("nothing is told"));
     };
     assert_eq!(rt; difference.gone(), gone);
@@ -50,21 +51,25 @@ fn more_changes_nothing(rt: HostRuntime) -> Result<(), Fail> {
     let heap = rt.alloc();
     let mut here = desk_of(heap, 3, &[5, 9, 20])?;
     let there = desk_of(heap, 3, &[3, 9, 20, 31])?;
-    let Outcome::More = bring_together(&mut here, &there, 3, 2, heap) else {
+    let None = bring_together(&mut here, &there, 3, 2, heap)? else {
         return Err(Fail::new("not more"));
     };
     assert_eq!(rt; here.list(), [5, 9, 20].as_slice());
     Ok(())
 }
 
-fn refused(rt: &impl Abort, outcome: Outcome, refusal: Refusal) -> Result<(), Fail> {
+fn refused(
+    rt: &impl Abort,
+    outcome: Result<Option<Difference>, Refusal>,
+    refusal: Refusal,
+) -> Result<(), Fail> {
     match outcome {
-        Outcome::Refused(told) => {
+        Err(told) => {
             assert_eq!(rt; told, refusal);
             Ok(())
         },
-        Outcome::Brought(_) => Err(Fail::new("brought")),
-        Outcome::More => Err(Fail::new("more")),
+        Ok(Some(_)) => Err(Fail::new("brought")),
+        Ok(None) => Err(Fail::new("more")),
     }
 }
 

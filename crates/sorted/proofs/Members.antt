@@ -1,5 +1,5 @@
 -- Membership, and what `rising` says of it.
-use Rattle.std.proofs.Common.{◌≡◌, ℕ, ◌<◌, ◌≤◌, true, false, List, [], ◌∷◌, ◌++◌, length, sym, refl, ap, ◌∙◌, arith}
+use Rattle.std.proofs.Common.{◌≡◌, ℕ, ◌<◌, ◌≤◌, true, false, List, [], ◌∷◌, ◌++◌, length, sym, refl, ap, ◌∙◌, arith, zero, suc, drop}
 use Rattle.std.proofs.lemmas.Bool.Decides.{nat_tests}
 use Rattle.sorted.specs.Lists.{or, has, rising, all_below}
 
@@ -97,3 +97,8 @@ equal_by_members (x ∷ xs) (y ∷ ys) r s e =
         let f = rising_over x xs r n in
         let g = rising_over y ys s n in
         grind (arith, nat_tests)
+
+pub rising_drop : (i : ℕ) (xs : List ℕ) → rising xs ≡ true → rising (drop i xs) ≡ true
+rising_drop zero xs r = r
+rising_drop (suc i) [] r = r
+rising_drop (suc i) (x ∷ xs) r = rising_drop i xs (rising_tail x xs r)

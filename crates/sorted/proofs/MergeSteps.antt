@@ -1,17 +1,18 @@
--- One turn of a merge of two rising lists: what is left of both, by the smaller of their first numbers.
-use Rattle.std.proofs.Common.{◌≡◌, ℕ, zero, suc, ◌+◌, ◌-◌, ◌<◌, ◌≤◌, true, List, [], ◌∷◌, ◌++◌, length, get_or, take, drop, sym, ap, ◌∙◌, arith}
-use Rattle.std.proofs.lemmas.List.{drop_more, drop_all, append_assoc, append-nil, length-drop, take_rest}
+-- A merge of two rising lists: its parts are their union, and what each has alone.
+use Rattle.std.proofs.Common.{Ordering, Less, Equal, Greater, ◌≡◌, ℕ, ◌+◌, ◌<◌, ◌≤◌, Bool, true, false, not, List, [], ◌∷◌, length, map, sym, refl, ap, ◌∙◌, arith}
+use Rattle.std.specs.List.{filter}
+use Rattle.std.specs.Ordering.{nat_cmp, match_ordering}
 use Rattle.std.proofs.lemmas.Bool.Decides.{nat_tests}
+use Rattle.std.proofs.lemmas.Cmp.{ranked}
+use Rattle.std.proofs.lemmas.List.{length-map}
+use Rattle.sorted.specs.declared.merge.Side.{Side}
+use Rattle.sorted.specs.declared.merge.Side.TheVariants.{Left, Both, Right}
 use Rattle.sorted.specs.Lists.{has, rising, only, differ, put_all}
+use Rattle.sorted.specs.Merged.{merged, merged_from}
 use Rattle.sorted.proofs.Members.{has_first, rising_tail, rising_over, rising_cons, has_under, equal_by_members}
 use Rattle.sorted.proofs.Insertion.{put_first}
 use Rattle.sorted.proofs.Difference.{only_cong, only_nil}
-use Rattle.sorted.proofs.Union.{put_all_has, put_all_rising, put_all_nil, union_comm}
-
-pub rising_drop : (i : ℕ) (xs : List ℕ) → rising xs ≡ true → rising (drop i xs) ≡ true
-rising_drop zero xs r = r
-rising_drop (suc i) [] r = r
-rising_drop (suc i) (x ∷ xs) r = rising_drop i xs (rising_tail x xs r)
+use Rattle.sorted.proofs.Union.{put_all_has, put_all_rising, put_all_nil, put_all_length_le, union_comm}
 
 only_less : (x y : ℕ) (xs ys : List ℕ) → rising (y ∷ ys) ≡ true → x < y → only (x ∷ xs) (y ∷ ys) ≡ x ∷ only xs (y ∷ ys)
 unfolding only
@@ -47,103 +48,122 @@ union_greater : (x y : ℕ) (xs ys : List ℕ) → rising (x ∷ xs) ≡ true �
 union_greater x y xs ys r s l =
     union_comm (x ∷ xs) (y ∷ ys) r s ∙ union_less y x ys xs s r l ∙ ap (λ zs. y ∷ zs) (union_comm ys (x ∷ xs) (rising_tail y ys s) r)
 
--- the same at places i of xs and j of ys
-module _ (xs ys : List ℕ) (r : rising xs ≡ true) (s : rising ys ≡ true) (i j : ℕ) (k : i < length xs) (l : j < length ys) where
-  x_rises : rising (get_or xs i 0 ∷ drop (i + 1) xs) ≡ true
-  x_rises = rw (← drop_more xs i 0 k) (rising_drop i xs r)
+abbrev pub is_left : Side → Bool
+is_left Left = true
+is_left Both = false
+is_left Right = false
 
-  y_rises : rising (get_or ys j 0 ∷ drop (j + 1) ys) ≡ true
-  y_rises = rw (← drop_more ys j 0 l) (rising_drop j ys s)
+abbrev is_right : Side → Bool
+is_right Left = false
+is_right Both = false
+is_right Right = true
 
-  pub only_at_less : get_or xs i 0 < get_or ys j 0 → only (drop i xs) (drop j ys) ≡ get_or xs i 0 ∷ only (drop (i + 1) xs) (drop j ys)
-  only_at_less h = rw (drop_more xs i 0 k, drop_more ys j 0 l) (only_less (get_or xs i 0) (get_or ys j 0) (drop (i + 1) xs) (drop (j + 1) ys) y_rises h)
+abbrev pub is_both : Side → Bool
+is_both Left = false
+is_both Both = true
+is_both Right = false
 
-  pub only_at_equal : get_or xs i 0 ≡ get_or ys j 0 → only (drop i xs) (drop j ys) ≡ only (drop (i + 1) xs) (drop (j + 1) ys)
-  only_at_equal h = rw (drop_more xs i 0 k, drop_more ys j 0 l) (only_equal (get_or xs i 0) (get_or ys j 0) (drop (i + 1) xs) (drop (j + 1) ys) x_rises h)
+abbrev pub numbers : List (Side × ℕ) → List ℕ
+numbers = map (λ p. p.1)
 
-  pub only_at_greater : get_or ys j 0 < get_or xs i 0 → only (drop i xs) (drop j ys) ≡ only (drop i xs) (drop (j + 1) ys)
-  only_at_greater h = rw (drop_more xs i 0 k, drop_more ys j 0 l) (only_greater (get_or xs i 0) (get_or ys j 0) (drop (i + 1) xs) (drop (j + 1) ys) x_rises h)
+-- zs has the numbers of xs and ys, and says which of them are in one alone
+pub record Parts (xs ys : List ℕ) (zs : List (Side × ℕ)) : Type 0 where
+  pub union : numbers zs ≡ put_all xs ys
+  pub left : numbers (filter (λ p. is_left p.0) zs) ≡ only xs ys
+  pub right : numbers (filter (λ p. is_right p.0) zs) ≡ only ys xs
 
-  pub union_at_less : get_or xs i 0 < get_or ys j 0 → put_all (drop i xs) (drop j ys) ≡ get_or xs i 0 ∷ put_all (drop (i + 1) xs) (drop j ys)
-  union_at_less h = rw (drop_more xs i 0 k, drop_more ys j 0 l) (union_less (get_or xs i 0) (get_or ys j 0) (drop (i + 1) xs) (drop (j + 1) ys) x_rises y_rises h)
+-- numbers that all come from one side
+module _ (side : Side) where
+  abbrev alone : List ℕ → List (Side × ℕ)
+  alone = map (λ n. (side, n))
 
-  pub union_at_equal : get_or xs i 0 ≡ get_or ys j 0 → put_all (drop i xs) (drop j ys) ≡ get_or xs i 0 ∷ put_all (drop (i + 1) xs) (drop (j + 1) ys)
-  union_at_equal h = rw (drop_more xs i 0 k, drop_more ys j 0 l) (union_equal (get_or xs i 0) (get_or ys j 0) (drop (i + 1) xs) (drop (j + 1) ys) x_rises y_rises h)
+  numbers_alone : (xs : List ℕ) → numbers (alone xs) ≡ xs
+  numbers_alone [] = refl
+  numbers_alone (x ∷ xs) = ap (λ t. x ∷ t) (numbers_alone xs)
 
-  pub union_at_greater : get_or ys j 0 < get_or xs i 0 → put_all (drop i xs) (drop j ys) ≡ get_or ys j 0 ∷ put_all (drop i xs) (drop (j + 1) ys)
-  union_at_greater h = rw (drop_more xs i 0 k, drop_more ys j 0 l) (union_greater (get_or xs i 0) (get_or ys j 0) (drop (i + 1) xs) (drop (j + 1) ys) x_rises y_rises h)
+  all_kept : (test : Side → Bool) → test side ≡ true → (xs : List ℕ) → numbers (filter (λ p. test p.0) (alone xs)) ≡ xs
+  all_kept test e [] = refl
+  all_kept test e (x ∷ xs) = rw e (ap (λ t. x ∷ t) (all_kept test e xs))
 
--- how many differ in what is left
-module _ (xs ys : List ℕ) (r : rising xs ≡ true) (s : rising ys ≡ true) (i j : ℕ) (k : i < length xs) (l : j < length ys) where
-  pub differ_at_less : get_or xs i 0 < get_or ys j 0 → differ (drop i xs) (drop j ys) ≡ differ (drop (i + 1) xs) (drop j ys) + 1
-  unfolding differ
-  differ_at_less h =
-      let a = ap length (only_at_less xs ys r s i j k l h) in
-      let b = ap length (only_at_greater ys xs s r j i l k h) in
-      omega arith
+  none_kept : (test : Side → Bool) → test side ≡ false → (xs : List ℕ) → numbers (filter (λ p. test p.0) (alone xs)) ≡ []
+  none_kept test e [] = refl
+  none_kept test e (x ∷ xs) = rw e (none_kept test e xs)
 
-  pub differ_at_equal : get_or xs i 0 ≡ get_or ys j 0 → differ (drop i xs) (drop j ys) ≡ differ (drop (i + 1) xs) (drop (j + 1) ys)
-  unfolding differ
-  differ_at_equal h =
-      let a = ap length (only_at_equal xs ys r s i j k l h) in
-      let b = ap length (only_at_equal ys xs s r j i l k (sym h)) in
-      omega arith
+all_left : (xs : List ℕ) → rising xs ≡ true → Parts xs [] (map (λ n. (Left, n)) xs)
+unfolding only
+all_left xs r = record {
+  union = numbers_alone Left xs ∙ sym (put_all_nil xs r);
+  left = all_kept Left is_left refl xs ∙ sym (only_nil xs);
+  right = none_kept Left is_right refl xs;
+}
 
-  pub differ_at_greater : get_or ys j 0 < get_or xs i 0 → differ (drop i xs) (drop j ys) ≡ differ (drop i xs) (drop (j + 1) ys) + 1
-  unfolding differ
-  differ_at_greater h =
-      let a = ap length (only_at_greater xs ys r s i j k l h) in
-      let b = ap length (only_at_less ys xs s r j i l k h) in
-      omega arith
+all_right : (ys : List ℕ) → Parts [] ys (map (λ n. (Right, n)) ys)
+unfolding only put_all
+all_right ys = record {
+  union = numbers_alone Right ys;
+  left = none_kept Right is_left refl ys;
+  right = all_kept Right is_right refl ys ∙ sym (only_nil ys);
+}
 
--- what is written and what is left make the whole: one number moves over, or none
-pub moved_on :
-    (out out' : List ℕ) (x : ℕ) (rest rest' whole : List ℕ) → out' ≡ out ++ x ∷ [] → rest ≡ x ∷ rest' → out ++ rest ≡ whole →
-    out' ++ rest' ≡ whole
-moved_on out out' x rest rest' whole e f h = rw (e, append_assoc) (ap (λ t. out ++ t) (sym f) ∙ h)
+parts_from :
+    (x : ℕ) (xs : List ℕ) → rising (x ∷ xs) ≡ true → ((ys : List ℕ) → rising ys ≡ true → Parts xs ys (merged xs ys)) →
+    (ys : List ℕ) → rising ys ≡ true → Parts (x ∷ xs) ys (merged_from x xs (merged xs) ys)
+parts_from x xs r on [] s = all_left (x ∷ xs) r
+parts_from x xs r on (y ∷ ys) s = by_order (parts_from x xs r on ys (rising_tail y ys s)) (nat_cmp x y) refl
+  where
+    by_order :
+        Parts (x ∷ xs) ys (merged_from x xs (merged xs) ys) → (o : Ordering) → o ≡ nat_cmp x y →
+        Parts (x ∷ xs) (y ∷ ys)
+        (match_ordering o ((Left, x) ∷ merged xs (y ∷ ys)) ((Both, x) ∷ merged xs ys) ((Right, y) ∷ merged_from x xs (merged xs) ys))
+    by_order p Less e =
+        let l = ranked x y Less e in
+        let q = on (y ∷ ys) s in
+        record {
+          union = ap (λ t. x ∷ t) q.union ∙ sym (union_less x y xs ys r s l);
+          left = ap (λ t. x ∷ t) q.left ∙ sym (only_less x y xs ys s l);
+          right = q.right ∙ sym (only_greater y x ys xs s l);
+        }
+    by_order p Equal e =
+        let l = ranked x y Equal e in
+        let q = on ys (rising_tail y ys s) in
+        record {
+          union = ap (λ t. x ∷ t) q.union ∙ sym (union_equal x y xs ys r s l);
+          left = q.left ∙ sym (only_equal x y xs ys r l);
+          right = q.right ∙ sym (only_equal y x ys xs s (sym l));
+        }
+    by_order p Greater e =
+        let l = ranked x y Greater e in
+        record {
+          union = ap (λ t. y ∷ t) p.union ∙ sym (union_greater x y xs ys r s l);
+          left = p.left ∙ sym (only_greater x y xs ys r l);
+          right = ap (λ t. y ∷ t) p.right ∙ sym (only_less y x ys xs r l);
+        }
 
-pub passed_over : (out rest rest' whole : List ℕ) → rest ≡ rest' → out ++ rest ≡ whole → out ++ rest' ≡ whole
-passed_over out rest rest' whole f h = ap (λ t. out ++ t) (sym f) ∙ h
+pub merged_parts : (xs ys : List ℕ) → rising xs ≡ true → rising ys ≡ true → Parts xs ys (merged xs ys)
+merged_parts [] ys r s = all_right ys
+merged_parts (x ∷ xs) ys r s = parts_from x xs r (λ zs. merged_parts xs zs (rising_tail x xs r)) ys s
 
--- where one list is at its end
-module _ (xs ys : List ℕ) (i j : ℕ) where
-  pub only_at_left_end : length xs ≤ i → only (drop i xs) (drop j ys) ≡ drop i xs
-  unfolding only
-  only_at_left_end h = rw (drop_all i xs h)
+-- what is not in both is in one alone
+apart : (zs : List (Side × ℕ)) →
+    length (filter (λ p. not (is_both p.0)) zs)
+    ≡ length (numbers (filter (λ p. is_left p.0) zs)) + length (numbers (filter (λ p. is_right p.0) zs))
+apart [] = refl
+apart ((Left, n) ∷ zs) = let h = apart zs in omega arith
+apart ((Both, n) ∷ zs) = apart zs
+apart ((Right, n) ∷ zs) = let h = apart zs in omega arith
 
-  pub only_at_right_end : length ys ≤ j → only (drop i xs) (drop j ys) ≡ drop i xs
-  only_at_right_end h = rw (drop_all j ys h) (only_nil (drop i xs))
+pub merged_apart : (xs ys : List ℕ) → rising xs ≡ true → rising ys ≡ true → length (filter (λ p. not (is_both p.0)) (merged xs ys)) ≡ differ xs ys
+unfolding differ
+merged_apart xs ys r s =
+    let p = merged_parts xs ys r s in
+    let a = apart (merged xs ys) in
+    let b = ap length p.left in
+    let c = ap length p.right in
+    omega arith
 
-  pub union_at_left_end : length xs ≤ i → put_all (drop i xs) (drop j ys) ≡ drop i xs ++ drop j ys
-  unfolding put_all
-  union_at_left_end h = rw (drop_all i xs h)
-
-  pub union_at_right_end : rising xs ≡ true → length ys ≤ j → put_all (drop i xs) (drop j ys) ≡ drop i xs ++ drop j ys
-  union_at_right_end r h = rw (drop_all j ys h) (put_all_nil (drop i xs) (rising_drop i xs r) ∙ sym (append-nil (drop i xs)))
-
-  pub differ_at_left_end : length xs ≤ i → differ (drop i xs) (drop j ys) ≡ (length xs - i) + (length ys - j)
-  unfolding differ only
-  differ_at_left_end h =
-      let a = ap length (only_nil (drop j ys)) in
-      let b = length-drop j ys in
-      rw (drop_all i xs h) (omega arith)
-
-  pub differ_at_right_end : length ys ≤ j → differ (drop i xs) (drop j ys) ≡ (length xs - i) + (length ys - j)
-  unfolding differ only
-  differ_at_right_end h =
-      let a = ap length (only_nil (drop i xs)) in
-      let b = length-drop i xs in
-      rw (drop_all j ys h) (omega arith)
-
--- the rest is written at the end
-pub written : (out out' part rest whole : List ℕ) → out' ≡ out ++ part → part ≡ rest → out ++ rest ≡ whole → out' ≡ whole
-written out out' part rest whole e f h = e ∙ ap (λ t. out ++ t) f ∙ h
-
-pub both_written :
-    (xs ys : List ℕ) (i j : ℕ) (out mid out' rest whole : List ℕ) → mid ≡ out ++ take (length xs - i) (drop i xs) →
-    out' ≡ mid ++ take (length ys - j) (drop j ys) → rest ≡ drop i xs ++ drop j ys → out ++ rest ≡ whole → out' ≡ whole
-both_written xs ys i j out mid out' rest whole e f g h =
-    let a = take_rest xs i in
-    let b = take_rest ys j in
-    let c = append_assoc out (drop i xs) (drop j ys) in
-    cc
+pub merged_length : (xs ys : List ℕ) → rising xs ≡ true → rising ys ≡ true → length (merged xs ys) ≤ length xs + length ys
+merged_length xs ys r s =
+    let a = ap length (merged_parts xs ys r s).union in
+    let b = length-map (merged xs ys) (λ p. p.1) in
+    let c = put_all_length_le xs ys in
+    omega arith

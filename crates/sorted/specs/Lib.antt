@@ -2,5 +2,6 @@
 pub mod Lists
 pub mod Faults
 pub mod Edits
+pub mod Merged
 pub mod Sorted
 pub mod Theorems

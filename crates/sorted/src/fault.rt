@@ -6,10 +6,13 @@ ghost use Rattle.sorted.specs.Faults.{FirstFault, Faultless};
 pub fn first_fault(list: &[u64], bound: u64) -> Option<usize>
     ensures { MatchOption result (Faultless bound list.now) (FirstFault bound list.now) }
 {
+    // The least number that may stand at the next place.
+    let mut least = 0;
     for (i, n) in list.iter().enumerate() {
-        if *n >= bound || (i > 0 && *n <= list[i - 1]) {
+        if *n < least || *n >= bound {
             return Some(i);
         }
+        least = *n + 1;
     }
     None
 }

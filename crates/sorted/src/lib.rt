@@ -13,6 +13,7 @@ pub mod slices;
 mod tests;
 
 pub use fault::first_fault;
+use std::alloc::AllocError;
 
 // Numbers by rising number, each once.
 #[derive(Drop)]
@@ -26,4 +27,14 @@ pub struct SortedList {
 pub enum FromSliceError {
     Fault(usize),
     Memory,
+}
+
+impl From<AllocError> for FromSliceError {
+    ghost use Rattle.sorted.specs.declared.FromSliceError.TheVariants.{Memory};
+
+    ghost from_gives = { λ _ e. e ≡ Memory };
+
+    fn from(_refused: AllocError) -> FromSliceError {
+        FromSliceError::Memory
+    }
 }

@@ -2,10 +2,12 @@
 ghost use Rattle.std.specs.Prelude.{◌≡◌, true, [], length, IfOk, MatchResult};
 ghost use Rattle.sorted.specs.Edits.{Apart, Found, Gap, Inserts, OnlyIn, Removed};
 ghost use Rattle.sorted.specs.Lists.{has, put_all, rising};
+ghost use Rattle.sorted.specs.Merged.{left_to_merge, merged};
 ghost use Rattle.sorted.specs.Sorted.{MadeOf, NotMade, items_of};
 
 use crate::fault::first_fault;
-use crate::{FromSliceError, SortedList, merge, slices};
+use crate::merge::{Merge, Side};
+use crate::{FromSliceError, SortedList, slices};
 use std::alloc::{AllocError, Global};
 
 impl SortedList {
@@ -25,13 +27,12 @@ impl SortedList {
         if let Some(place) = first_fault(list, bound) {
             return Err(FromSliceError::Fault(place));
         }
-        match Vec::from_slice(heap, list) {
-            Ok(items) => Ok(SortedList { items }),
-            Err(_) => Err(FromSliceError::Memory),
-        }
+        let items = Vec::from_slice(heap, list)?;
+        Ok(SortedList { items })
     }
 
     // The same list, in memory of its own.
+    // Kept: a struct that is not `Copy` and has a ghost field derives no `Clone`, and an impl by hand is these lines and two members more.
     pub fn copied(&self, heap: Global) -> Result<SortedList, AllocError>
         ensures { IfOk result (λ l. items_of l ≡ items_of self.now) }
     {
@@ -94,11 +95,25 @@ impl SortedList {
         }
     }
 
+    // The numbers of both lists by rising number, each once and with its side.
+    fn merge<'a>(&'a self, other: &'a SortedList) -> Merge<'a>
+        ensures { left_to_merge result ≡ merged (items_of self.now) (items_of other.now) }
+    {
+        Merge {
+            left: self.as_slice(),
+            right: other.as_slice(),
+        }
+    }
+
     // What of this list is not in the other. Put into the other, less what this list has not, it makes this list.
     pub fn difference(&self, other: &SortedList, heap: Global) -> Result<SortedList, AllocError>
         ensures { IfOk result (λ l. OnlyIn (items_of self.now) (items_of other.now) (items_of l)) }
     {
-        let items = merge::difference(self.as_slice(), other.as_slice(), heap)?;
+        let items = self
+            .merge(other)
+            .filter(|(side, _)| *side == Side::Left)
+            .map(|(_, n)| n)
+            .collect(heap)?;
         Ok(SortedList { items })
     }
 
@@ -106,7 +121,7 @@ impl SortedList {
     pub fn union(&self, other: &SortedList, heap: Global) -> Result<SortedList, AllocError>
         ensures { IfOk result (λ l. items_of l ≡ put_all (items_of self.now) (items_of other.now)) }
     {
-        let items = merge::union(self.as_slice(), other.as_slice(), heap)?;
+        let items = self.merge(other).map(|(_, n)| n).collect(heap)?;
         Ok(SortedList { items })
     }
 
@@ -114,6 +129,8 @@ impl SortedList {
     pub fn differ(&self, other: &SortedList) -> usize
         ensures { Apart (items_of self.now) (items_of other.now) result }
     {
-        merge::count_differences(self.as_slice(), other.as_slice())
+        self.merge(other)
+            .filter(|(side, _)| *side != Side::Both)
+            .count()
     }
 }

@@ -1,97 +1,57 @@
 // Two rising lists gone through side by side, from their smallest numbers up.
-ghost use Rattle.std.specs.Prelude.{◌≡◌, true, IfOk};
-ghost use Rattle.sorted.specs.Lists.{differ, only, put_all, rising};
+ghost use Rattle.std.specs.Iterator.{YieldsFirst, item_count};
+ghost use Rattle.sorted.specs.Merged.{left_to_merge};
 
-use std::alloc::{AllocError, Global};
 use std::cmp::Ordering;
 
-// What of a is not in b.
-pub(crate) fn difference(a: &[u64], b: &[u64], heap: Global) -> Result<Vec<u64>, AllocError>
-    requires left { rising a.now ≡ true }
-    requires right { rising b.now ≡ true }
-    ensures { IfOk result (λ v. v.items ≡ only a.now b.now) }
-{
-    let mut out = Vec::new(heap);
-    let mut i = 0;
-    let mut j = 0;
-    while i < a.len() && j < b.len() {
-        let x = a[i];
-        let y = b[j];
-        match x.cmp(&y) {
-            Ordering::Less => {
-                out.push(x)?;
-                i += 1;
-            }
-            Ordering::Equal => {
-                i += 1;
-                j += 1;
-            }
-            Ordering::Greater => j += 1,
-        }
-    }
-    out.extend_from_slice(&a[i..])?;
-    Ok(out)
+// Which of two lists a number stands in.
+#[derive(Clone, Copy, PartialEq, Eq)]
+pub(crate) enum Side {
+    Left,
+    Both,
+    Right,
 }
 
-// What is in a, in b or in both.
-pub(crate) fn union(a: &[u64], b: &[u64], heap: Global) -> Result<Vec<u64>, AllocError>
-    requires left { rising a.now ≡ true }
-    requires right { rising b.now ≡ true }
-    ensures { IfOk result (λ v. v.items ≡ put_all a.now b.now) }
-{
-    let mut out = Vec::new(heap);
-    let mut i = 0;
-    let mut j = 0;
-    while i < a.len() && j < b.len() {
-        let x = a[i];
-        let y = b[j];
-        match x.cmp(&y) {
-            Ordering::Less => {
-                out.push(x)?;
-                i += 1;
-            }
-            Ordering::Equal => {
-                out.push(x)?;
-                i += 1;
-                j += 1;
-            }
-            Ordering::Greater => {
-                out.push(y)?;
-                j += 1;
-            }
-        }
-    }
-    out.extend_from_slice(&a[i..])?;
-    out.extend_from_slice(&b[j..])?;
-    Ok(out)
+// What is still to come of two rising lists: their numbers by rising number, each once and with its side.
+#[derive(Drop)]
+pub(crate) struct Merge<'a> {
+    pub(crate) left: &'a [u64],
+    pub(crate) right: &'a [u64],
 }
 
-// How many numbers are in one of a and b and not in the other.
-pub(crate) fn count_differences(a: &[u64], b: &[u64]) -> usize
-    requires left { rising a.now ≡ true }
-    requires right { rising b.now ≡ true }
-    ensures { result ≡ differ a.now b.now }
-{
-    let mut count = 0;
-    let mut i = 0;
-    let mut j = 0;
-    while i < a.len() && j < b.len() {
-        let x = a[i];
-        let y = b[j];
-        match x.cmp(&y) {
-            Ordering::Less => {
-                count += 1;
-                i += 1;
+impl<'a> Iterator for Merge<'a> {
+    type Item = (Side, u64);
+
+    ghost next_gives = { YieldsFirst left_to_merge };
+
+    ghost remaining = { item_count left_to_merge };
+
+    fn next(&mut self) -> Option<(Side, u64)> {
+        match (self.left, self.right) {
+            ([], []) => None,
+            ([n, rest @ ..], []) => {
+                self.left = rest;
+                Some((Side::Left, *n))
             }
-            Ordering::Equal => {
-                i += 1;
-                j += 1;
+            ([], [n, rest @ ..]) => {
+                self.right = rest;
+                Some((Side::Right, *n))
             }
-            Ordering::Greater => {
-                count += 1;
-                j += 1;
-            }
+            ([x, xs @ ..], [y, ys @ ..]) => match x.cmp(y) {
+                Ordering::Less => {
+                    self.left = xs;
+                    Some((Side::Left, *x))
+                }
+                Ordering::Equal => {
+                    self.left = xs;
+                    self.right = ys;
+                    Some((Side::Both, *x))
+                }
+                Ordering::Greater => {
+                    self.right = ys;
+                    Some((Side::Right, *y))
+                }
+            },
         }
     }
-    count + (a.len() - i) + (b.len() - j)
 }

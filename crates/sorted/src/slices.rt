@@ -14,15 +14,11 @@ pub fn search(list: &[u64], n: u64) -> Result<usize, usize>
 pub fn insert_at(row: &mut [u64], place: usize, n: u64)
     ensures { row.new ≡ take (length row.old) (insert row.old place n) }
 {
-    if place > row.len() {
+    if place >= row.len() {
         return;
     }
-    let mut carried = n;
-    for i in place..row.len() {
-        let moved = row[i];
-        row[i] = carried;
-        carried = moved;
-    }
+    row.copy_within(place..row.len() - 1, place + 1);
+    row[place] = n;
 }
 
 // Takes out the number at a place. What stood behind it moves down by one, and the last place stays as it was.
@@ -32,7 +28,5 @@ pub fn remove_at(row: &mut [u64], place: usize)
     if place >= row.len() {
         return;
     }
-    for i in place + 1..row.len() {
-        row[i - 1] = row[i];
-    }
+    row.copy_within(place + 1.., place);
 }

@@ -6,13 +6,7 @@ use std::test::*;
 
 // The numbers whose bits are set, in order.
 fn numbers(rt: &(impl Abort + AllocGlobal), mask: u8) -> Result<Vec<u64>, AllocError> {
-    let mut set = Vec::new(rt.alloc());
-    for n in 0..6 {
-        if mask >> n & 1 == 1 {
-            set.push(n)?;
-        }
-    }
-    Ok(set)
+    (0..6).filter(|n| mask >> *n & 1 == 1).collect(rt.alloc())
 }
 
 fn list(rt: &(impl Abort + AllocGlobal), mask: u8) -> Result<SortedList, Fail> {
@@ -27,30 +21,12 @@ fn holds(rt: &(impl Abort + AllocGlobal), list: &SortedList, mask: u8) -> Result
     Ok(())
 }
 
-fn differences(
-    rt: &(impl Abort + AllocGlobal),
-    a: &SortedList,
-    b: &SortedList,
-    mask: u8,
-) -> Result<(), Fail> {
-    holds(rt, &a.difference(b, rt.alloc())?, mask)
-}
-
-fn unions(
-    rt: &(impl Abort + AllocGlobal),
-    a: &SortedList,
-    b: &SortedList,
-    mask: u8,
-) -> Result<(), Fail> {
-    holds(rt, &a.union(b, rt.alloc())?, mask)
-}
-
 fn pair(rt: &(impl Abort + AllocGlobal), a: u8, b: u8) -> Result<(), Fail> {
     let left = list(rt, a)?;
     let right = list(rt, b)?;
     assert_eq!(rt; left.differ(&right), numbers(rt, a ^ b)?.len());
-    differences(rt, &left, &right, a & !b)?;
-    unions(rt, &left, &right, a | b)
+    holds(rt, &left.difference(&right, rt.alloc())?, a & !b)?;
+    holds(rt, &left.union(&right, rt.alloc())?, a | b)
 }
 
 #[test]

@@ -9,7 +9,7 @@ impl Numbers {
     fn as_slice(&self) -> &[u64]
         ensures { result.now ≡ listed self.now }
     {
-        &self.at[0..self.len]
+        &self.at[..self.len]
     }
 }
 

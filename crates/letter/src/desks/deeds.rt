@@ -1,21 +1,23 @@
 // What is done at a desk: it is opened, a number comes, a number goes, and it answers with its letter.
-ghost use Rattle.std.specs.Prelude.{◌≡◌, ℕ, ◌<◌, ◌≤◌, true, false, List, IfOk, MatchOption, MatchResult};
+ghost use Rattle.std.specs.Prelude.{◌≡◌, ◌<◌, ◌≤◌, true, false, IfOk, MatchOption, MatchResult};
 ghost use Rattle.sorted.specs.Lists.{has};
-ghost use Rattle.letter.specs.Desks.{desk_of, desk_size, Opened, NotOpened, Barred, Welcome, Came, NotCame, Went, NotWent, Told, UpToDate};
+ghost use Rattle.letter.specs.Desks.{desk_of, desk_size, Opened, NotOpened, Barred, Welcome, Came, NotCame, Went, NotWent, DeedDone, DeedNotDone, Told, UpToDate};
 ghost use Rattle.letter.specs.Letter.{letter};
 ghost use Rattle.letter.specs.Letters.{letter_of};
 ghost use Rattle.sorted.specs.Sorted.{items_of};
 
-use crate::desks::{CAPACITY, Desk};
+use crate::desks::{CAPACITY, Deed, Desk};
 use crate::letters::Letter;
 use crate::refusals::Refusal;
-use crate::row::{MOST_VALUES, Row};
+use crate::row::Row;
 use field::modulus::Modulus;
 use field::residue::Residue;
 use field::tally::Tally;
 use sorted::SortedList;
 use std::alloc::{AllocError, Global};
 
+// Kept: each deed's contract names `size`, which compares with the desk before, so that no type can say it, and `right`,
+// a promise that public calls have to name.
 impl<const P: u64> Desk<P> {
     // A desk with nothing on its list, for letters of up to m values.
     pub fn open(modulus: Modulus<P>, m: u64, heap: Global) -> Result<Desk<P>, Refusal>
@@ -35,6 +37,7 @@ impl<const P: u64> Desk<P> {
     }
 
     // The same desk, with a list in memory of its own.
+    // Kept: a struct that is not `Copy` and has a ghost field derives no `Clone`.
     pub fn copied(&self, heap: Global) -> Result<Desk<P>, AllocError>
         ensures { IfOk result (λ d. (desk_of d ≡ desk_of self.now) × (desk_size d ≡ desk_size self.now)) }
     {
@@ -89,9 +92,7 @@ impl<const P: u64> Desk<P> {
         if self.list.len() >= CAPACITY {
             return Err(Refusal::Full);
         }
-        let Ok(_) = self.list.insert(n) else {
-            return Err(Refusal::Memory);
-        };
+        self.list.insert(n)?;
         self.kept = self.kept.times_each(self.nodes, residue, tally);
         Ok(())
     }
@@ -100,10 +101,9 @@ impl<const P: u64> Desk<P> {
     fn member(&self, n: u64) -> Option<Residue<P>>
         ensures { MatchOption result (has (items_of self.now.list) n ≡ false) (λ x. (has (items_of self.now.list) n ≡ true) × (x.value ≡ n)) }
     {
-        if self.list.contains(n) {
-            return Some(Residue::new(self.modulus, n));
-        }
-        None
+        self.list
+            .contains(n)
+            .then_some(Residue::new(self.modulus, n))
     }
 
     // A number goes: the letter is made anew by a product with the inverse of z - n at each point z.
@@ -118,6 +118,18 @@ impl<const P: u64> Desk<P> {
         let _ = self.list.remove(n);
         self.kept = self.kept.undo_each(self.nodes, residue, tally);
         Ok(())
+    }
+
+    // A deed is done: its number comes, or goes.
+    pub fn does(&mut self, deed: Deed, tally: &mut Tally) -> Result<(), Refusal>
+        ensures done { MatchResult result (λ _. DeedDone P (desk_size self.old) deed (desk_of self.old) (desk_of self.new) tally.old.products tally.new.products) (DeedNotDone P (desk_size self.old) deed (desk_of self.old) (desk_of self.new) tally.old.products tally.new.products) }
+        ensures size { desk_size self.new ≡ desk_size self.old }
+        ensures right { UpToDate P (desk_size self.new) (desk_of self.new) }
+    {
+        match deed {
+            Deed::Comes(n) => self.comes(n, tally),
+            Deed::Goes(n) => self.goes(n, tally),
+        }
     }
 
     // The letter of the list with m values, a beginning of the row that is kept.

@@ -1,37 +1,28 @@
 // Several deeds at a desk, all of them or none.
-ghost use Rattle.std.specs.Prelude.{◌≡◌, MatchResult};
+ghost use Rattle.std.specs.Prelude.{◌≡◌, ℕ, map, MatchResult};
 ghost use Rattle.letter.specs.Desks.{desk_of, desk_size, UpToDate};
-ghost use Rattle.letter.specs.Exchanges.{AllDone, Done, Exchanged, NotDone, NotExchanged, Stopped, deed, deeds};
+ghost use Rattle.letter.specs.Exchanges.{AllDone, Exchanged, Makes, NotExchanged, Stopped};
+ghost use Rattle.letter.specs.Letter.{Deed as Said};
 
-use crate::desks::{Desk, Direction};
+use crate::desks::{Deed, Desk};
 use crate::refusals::Refusal;
 use field::tally::Tally;
 use std::alloc::Global;
 
 impl<const P: u64> Desk<P> {
-    // A number comes, or goes.
-    fn passes(&mut self, direction: Direction, n: u64, tally: &mut Tally) -> Result<(), Refusal>
-        ensures done { MatchResult result (λ _. Done P (desk_size self.old) (deed direction n) (desk_of self.old).list (desk_of self.new).list tally.old.products tally.new.products) (NotDone P (desk_size self.old) (deed direction n) (desk_of self.old).list (desk_of self.new).list) }
-        ensures size { desk_size self.new ≡ desk_size self.old }
-    {
-        match direction {
-            Direction::Come => self.comes(n, tally),
-            Direction::Go => self.goes(n, tally),
-        }
-    }
-
-    // Numbers come, or go, one after the other, up to the first that cannot.
-    fn each(
+    // A deed is done with each of the numbers, one after the other, up to the first that cannot be done.
+    fn each<F: Fn(u64) -> Deed>(
         &mut self,
-        direction: Direction,
+        deed: F,
         numbers: &[u64],
         tally: &mut Tally,
     ) -> Result<(), Refusal>
-        ensures done { MatchResult result (λ _. AllDone P (desk_size self.old) (deeds direction numbers.now) (desk_of self.old).list (desk_of self.new).list tally.old.products tally.new.products) (λ e. Stopped P (desk_size self.old) (desk_of self.old).list (deeds direction numbers.now) e) }
+        requires { (n : ℕ) → F.pre deed n }
+        ensures done { (w : ℕ → Said) → Makes (F.post deed) w → MatchResult result (λ _. AllDone P (desk_size self.old) (map w numbers.now) (desk_of self.old).list (desk_of self.new).list tally.old.products tally.new.products) (λ e. Stopped P (desk_size self.old) (desk_of self.old).list (map w numbers.now) e) }
         ensures size { desk_size self.new ≡ desk_size self.old }
     {
         for n in numbers {
-            self.passes(direction, *n, tally)?;
+            self.does(deed(*n), tally)?;
         }
         Ok(())
     }
@@ -49,12 +40,10 @@ impl<const P: u64> Desk<P> {
         ensures size { desk_size self.new ≡ desk_size self.old }
         ensures right { UpToDate P (desk_size self.new) (desk_of self.new) }
     {
-        let Ok(mut copy) = self.copied(heap) else {
-            return Err(Refusal::Memory);
-        };
+        let mut copy = self.copied(heap)?;
         let mut count = *tally;
-        copy.each(Direction::Go, gone, &mut count)?;
-        copy.each(Direction::Come, come, &mut count)?;
+        copy.each(Deed::Goes, gone, &mut count)?;
+        copy.each(Deed::Comes, come, &mut count)?;
         *self = copy;
         *tally = count;
         Ok(())

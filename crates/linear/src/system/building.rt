@@ -1,6 +1,6 @@
 // How a system is built: empty, then row by row.
 ghost use Rattle.std.specs.Prelude.{◌<◌, MatchOption};
-ghost use Rattle.linear.specs.Cells.{numbers};
+ghost use Rattle.field.specs.Plain.{plain};
 ghost use Rattle.linear.specs.Systems.{Empty, Pushed};
 
 use crate::row::Row;
@@ -27,7 +27,7 @@ impl<const P: u64> System<P> {
 
     // Adds the equation with these coefficients and this right side; where it is refused, the system stays as it was.
     pub fn push(&mut self, coefficients: &[Residue<P>], right: Residue<P>) -> Result<(), Refusal>
-        ensures { Pushed (numbers coefficients.now) right.entry.value self.old self.new result }
+        ensures { Pushed (plain coefficients.now) right.entry.value self.old self.new result }
     {
         if coefficients.len() != self.unknowns {
             return Err(Refusal::Length);

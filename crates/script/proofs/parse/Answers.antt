@@ -1,28 +1,15 @@
-use Rattle.std.proofs.Common.{◌∷◌, sym, ap, ◌∙◌, subst}
+use Rattle.std.proofs.Common.{sym, ◌∙◌, subst}
 use Rattle.script.specs.Reads.{Reads}
 use Rattle.script.specs.Requests.{InRange, words_of}
-use Rattle.script.specs.Words.{words}
-use Rattle.script.proofs.Said.{no_verb, no_word, understood}
+use Rattle.script.proofs.Said.{no_word, understood}
 use Rattle.script.proofs.parse.Goals as goal
-
-pub returns-in_err-word : goal.returns-in_err-word
-returns-in_err-word c =
-    understood c.args.line.now c.from_residual.result
-    (rw c.from_residual.ensures (λ q small e. no_word q (sym c.in_err-word.ensures ∙ e)))
 
 pub returns-in_err-verb : goal.returns-in_err-verb
 returns-in_err-verb c =
-    understood c.args.line.now c.from_residual-in_err-verb.result
-    (rw c.from_residual-in_err-verb.ensures
-    (λ q small e.
-    no_verb c.in_ok-word.word.now (words c.in_ok-word.rest.now) c.in_err-verb.ensures
-    q (sym c.in_ok-word.ensures ∙ e)))
+    understood c.args.line.now c.from_residual.result
+    (rw c.from_residual.ensures (λ q small e. no_word q (sym c.in_err-verb.ensures ∙ e)))
 
 pub returns : goal.returns
 returns c =
     understood c.args.line.now c.request_of.result
-    (subst (λ ws. Reads InRange words_of ws c.request_of.result)
-    (sym
-    (c.in_ok-word.ensures
-    ∙ ap (λ w. w ∷ words c.in_ok-word.rest.now) c.in_ok-verb.ensures.1))
-    c.request_of.ensures)
+    (subst (λ ws. Reads InRange words_of ws c.request_of.result) (sym c.in_ok-verb.ensures) c.request_of.ensures)

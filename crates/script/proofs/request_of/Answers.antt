@@ -1,32 +1,22 @@
-use Rattle.std.proofs.Common.{drop, ap}
-use Rattle.script.specs.Words.{words}
-use Rattle.script.proofs.Said.{of_that, pair_from, pair_and_way_from}
+use Rattle.std.proofs.Common.{rules}
+use Rattle.std.proofs.lemmas.Slice.Eq.{text_from_reads}
+use Rattle.script.proofs.Said.{asks, by_kind, comes, goes, letters, lists, opens}
 use Rattle.script.proofs.request_of.Goals as goal
 
-pub returns-in_err-site-in-Comes : goal.returns-in_err-site-in-Comes
-returns-in_err-site-in-Comes c =
-    rw (c.from_residual-in_err-site-in-Comes.ensures, c.in-Comes.is)
-    (λ q small e.
-    let t = of_that _ q small e in
-    c.in_err-site-in-Comes.ensures (pair_from (words c.args.text.now)) t.range (ap (drop 1) t.is))
+pub returns-in-open : goal.returns-in-open
+returns-in-open c = search (rules, text_from_reads, by_kind opens)
 
-pub returns-in_err-site-in-Goes : goal.returns-in_err-site-in-Goes
-returns-in_err-site-in-Goes c =
-    rw (c.from_residual-in_err-site-in-Goes.ensures, c.in-Goes.is)
-    (λ q small e.
-    let t = of_that _ q small e in
-    c.in_err-site-in-Goes.ensures (pair_from (words c.args.text.now)) t.range (ap (drop 1) t.is))
+pub returns-in-list : goal.returns-in-list
+returns-in-list c = search (rules, text_from_reads, by_kind lists)
 
-pub returns-in_err-site-in-Ask : goal.returns-in_err-site-in-Ask
-returns-in_err-site-in-Ask c =
-    rw (c.from_residual-in_err-site-in-Ask.ensures, c.in-Ask.is)
-    (λ q small e.
-    let t = of_that _ q small e in
-    c.in_err-site-in-Ask.ensures (pair_and_way_from (words c.args.text.now)) t.range (ap (drop 1) t.is))
+pub returns-in-comes : goal.returns-in-comes
+returns-in-comes c = search (rules, text_from_reads, by_kind comes)
 
-pub returns-in_err-site-in-Letter : goal.returns-in_err-site-in-Letter
-returns-in_err-site-in-Letter c =
-    rw (c.from_residual-in_err-site-in-Letter.ensures, c.in-Letter.is)
-    (λ q small e.
-    let t = of_that _ q small e in
-    c.in_err-site-in-Letter.ensures (pair_from (words c.args.text.now)) t.range (ap (drop 1) t.is))
+pub returns-in-goes : goal.returns-in-goes
+returns-in-goes c = search (rules, text_from_reads, by_kind goes)
+
+pub returns-in-letter : goal.returns-in-letter
+returns-in-letter c = search (rules, text_from_reads, by_kind letters)
+
+pub returns-in-ask : goal.returns-in-ask
+returns-in-ask c = search (rules, text_from_reads, by_kind asks)

@@ -2,9 +2,6 @@ use Rattle.std.proofs.Common.{[], ◌∷◌}
 use Rattle.script.specs.Requests.{way_word}
 use Rattle.script.proofs.two_numbers_way.Goals as goal
 
-pub returns-in_err-first : goal.returns-in_err-first
-returns-in_err-first c = rw c.from_residual.ensures (λ t small e. c.in_err-first.ensures t.0 _ small.0 e)
-
 pub returns-in_err-second : goal.returns-in_err-second
 returns-in_err-second c =
     rw c.from_residual-in_err-second.ensures

@@ -1,6 +1,6 @@
 // What is asked of several sites.
-ghost use Rattle.std.specs.Prelude.{◌≡◌, ◌<◌, ◌≤◌, ◌⊎◌, length, MatchOption, MatchResult};
-ghost use Rattle.letter.specs.Desks.{Told};
+ghost use Rattle.std.specs.Prelude.{◌≡◌, ◌<◌, ◌≤◌, ◌⊎◌, length, MatchResult};
+ghost use Rattle.letter.specs.Desks.{Told, deed_of};
 ghost use Rattle.letter.specs.Letter.{comes, goes, letter};
 ghost use Rattle.letter.specs.Letters.{letter_of};
 ghost use Rattle.sites.specs.Network.{Absent, NotOpened, NotPassed, Opened, Passed, Right, list_at, lists_of};
@@ -10,9 +10,10 @@ use crate::network::Sites;
 use crate::site::Site;
 use field::modulus::Modulus;
 use field::tally::Tally;
+use letter::desks::Deed;
 use letter::letters::Letter;
 use letter::refusals::Refusal;
-use std::alloc::Global;
+use std::alloc::{AllocError, Global};
 
 // How many sites there may be.
 pub const FEWEST: u64 = 2;
@@ -29,13 +30,8 @@ impl<const P: u64> Sites<P> {
         }
         let mut sites = Vec::new(heap);
         for _k in 0..n {
-            let site = match Site::open(modulus, heap) {
-                Ok(site) => site,
-                Err(refusal) => return Err(refusal),
-            };
-            let Ok(()) = sites.push(site) else {
-                return Err(Refusal::Memory);
-            };
+            let site = Site::open(modulus, heap)?;
+            sites.push(site).map_err(AllocError::from)?;
         }
         Ok(Sites { sites })
     }
@@ -47,34 +43,37 @@ impl<const P: u64> Sites<P> {
         self.sites.len()
     }
 
-    // Site i, if there is one.
-    pub(crate) fn site(&self, i: u64) -> Option<&Site<P>>
-        ensures { MatchOption result (length (lists_of self.now) ≤ i) (λ s. (i < length (lists_of self.now)) × (site_list s.now ≡ list_at (lists_of self.now) i)) }
+    // Site i.
+    pub(crate) fn site(&self, i: u64) -> Result<&Site<P>, Refusal>
+        ensures { MatchResult result (λ s. (i < length (lists_of self.now)) × (site_list s.now ≡ list_at (lists_of self.now) i)) (Absent (lists_of self.now) i) }
     {
-        if i >= self.sites.len() as u64 {
-            return None;
-        }
-        Some(&self.sites[i as usize])
+        self.sites.get(i as usize).ok_or(Refusal::Site(i))
     }
 
     // The numbers on the list of site i, by rising number.
     pub fn list(&self, i: u64) -> Result<&[u64], Refusal>
         ensures { MatchResult result (λ s. (i < length (lists_of self.now)) × (s.now ≡ list_at (lists_of self.now) i)) (Absent (lists_of self.now) i) }
     {
-        let Some(site) = self.site(i) else {
-            return Err(Refusal::Site(i));
-        };
-        Ok(site.list())
+        Ok(self.site(i)?.list())
     }
 
     // The letter of site i with m values.
     pub fn letter(&self, i: u64, m: u64) -> Result<Letter<P>, Refusal>
         ensures { MatchResult result (λ l. (i < length (lists_of self.now)) × (m ≤ 64) × (letter_of l ≡ letter P m (list_at (lists_of self.now) i))) (λ e. Absent (lists_of self.now) i e ⊎ ((i < length (lists_of self.now)) × (64 < m) × Told 1 0 e)) }
     {
-        let Some(site) = self.site(i) else {
+        self.site(i)?.letter(m)
+    }
+
+    // A deed is done at site i: its number comes, or goes.
+    // Kept: `right` stands in the contract of each deed, since public calls have to name that promise.
+    pub fn does(&mut self, i: u64, deed: Deed, tally: &mut Tally) -> Result<(), Refusal>
+        ensures done { MatchResult result (λ _. Passed P i (deed_of deed) (lists_of self.old) (lists_of self.new) tally.old.products tally.new.products) (NotPassed P i (deed_of deed) (lists_of self.old) (lists_of self.new)) }
+        ensures right { Right self.new }
+    {
+        let Some(site) = self.sites.get_mut(i as usize) else {
             return Err(Refusal::Site(i));
         };
-        site.letter(m)
+        site.does(deed, tally)
     }
 
     // A number comes at site i.
@@ -82,10 +81,7 @@ impl<const P: u64> Sites<P> {
         ensures done { MatchResult result (λ _. Passed P i (comes n) (lists_of self.old) (lists_of self.new) tally.old.products tally.new.products) (NotPassed P i (comes n) (lists_of self.old) (lists_of self.new)) }
         ensures right { Right self.new }
     {
-        if i >= self.sites.len() as u64 {
-            return Err(Refusal::Site(i));
-        }
-        self.sites[i as usize].comes(n, tally)
+        self.does(i, Deed::Comes(n), tally)
     }
 
     // A number goes at site i.
@@ -93,9 +89,6 @@ impl<const P: u64> Sites<P> {
         ensures done { MatchResult result (λ _. Passed P i (goes n) (lists_of self.old) (lists_of self.new) tally.old.products tally.new.products) (NotPassed P i (goes n) (lists_of self.old) (lists_of self.new)) }
         ensures right { Right self.new }
     {
-        if i >= self.sites.len() as u64 {
-            return Err(Refusal::Site(i));
-        }
-        self.sites[i as usize].goes(n, tally)
+        self.does(i, Deed::Goes(n), tally)
     }
 }

@@ -18,17 +18,13 @@ impl<const P: u64> Site<P> {
         ensures { MatchOption result (Unanswered P (site_list there.now) (site_list self.now) rungs) (Answers P (site_list there.now) (site_list self.now) rungs 0) }
     {
         let mut sent = 0;
-        for m in &RUNGS {
-            let Ok(letter) = there.desk.letter(*m) else {
-                unreachable()
-            };
-            sent += *m;
-            let Ok(found) = difference_beside(&self.desk, letter, *m - 1) else {
-                unreachable()
-            };
+        for &m in &RUNGS {
+            let letter = there.desk.letter(m).unwrap();
+            sent += m;
+            let found = difference_beside(&self.desk, letter, m - 1).unwrap();
             if let Some(difference) = found {
                 return Some(Reading {
-                    values: *m,
+                    values: m,
                     sent,
                     difference,
                 });
@@ -42,12 +38,11 @@ impl<const P: u64> Site<P> {
         ensures { MatchResult result (λ _. site_list self.new ≡ taken_up way (site_list self.old) (listed difference.gone) (listed difference.come)) (λ e. (site_list self.new ≡ site_list self.old) × Untaken P way (site_list self.old) (listed difference.gone) (listed difference.come) e) }
     {
         let mut tally = Tally::new();
-        match way {
-            Way::Take => {
-                self.desk
-                    .exchange(difference.gone(), difference.come(), &mut tally, heap)
-            }
-            Way::Join => self.desk.exchange(&[], difference.come(), &mut tally, heap),
-        }
+        let gone = match way {
+            Way::Take => difference.gone(),
+            Way::Join => &[],
+        };
+        self.desk
+            .exchange(gone, difference.come(), &mut tally, heap)
     }
 }

@@ -1,11 +1,7 @@
 -- The reader's reply, coded; it tells at most 64 numbers.
 use Rattle.decode.specs.declared.entry.Reply.TheVariants.{These, Refused}
-use Rattle.capi.proofs.Telling.{told_few, reads_by}
+use Rattle.capi.proofs.Telling.{reads_by}
 use Rattle.capi.proofs.calls.ridgeweek_read.Goals as goal
-
-pub code_done-requires : goal.code_done-requires
-code_done-requires c =
-    told_few c.args.note.now c.args.here.now c.args.out.now c.args.d c.in-These.went c.in-These.came _ c.in-These.ensures
 
 pub returns-in-These : goal.returns-in-These
 returns-in-These c =

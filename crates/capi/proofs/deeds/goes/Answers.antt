@@ -4,5 +4,5 @@ use Rattle.capi.proofs.deeds.goes.Goals as goal
 
 pub returns : goal.returns
 returns c =
-    went_by c.args.note.now c.args.list.now c.args.n c.in-Ok.step c.remove_at.new.row _ _ c.in-Ok-write_letter.field-0
-    c.in-Ok.ensures c.remove_at.ensures c.count.ensures c.in-Ok-write_letter.ensures
+    went_by c.args.note.now c.args.list.now c.args.n c.in_ok-step.step c.remove_at.new.row _ _ c.unwrap.result
+    c.in_ok-step.ensures c.remove_at.ensures c.count.ensures (rw c.unwrap.ensures at c.write_letter.ensures)

@@ -11,7 +11,7 @@ use Rattle.letter.proofs.slices.letter_of.Goals as goal
 
 pub values_of-values-requires : goal.values_of-values-requires
 values_of-values-requires g c =
-    let read = c.in-Ok.ensures in (
+    let read = c.in_ok-list.ensures in (
       lit< tt,
       (
         lit< tt,
@@ -23,7 +23,7 @@ pub returns : goal.returns
 unfolding letter letter_of
 returns g c =
     let spots = c.in-Some.ensures in
-    let read = c.in-Ok.ensures in
+    let read = c.in_ok-list.ensures in
     let new = c.new.ensures in
     let list = list_in c.args.here.now in
     record {
@@ -36,6 +36,6 @@ returns g c =
           ∙ ap (λ t. record { many = length list; at = t })
           (ap (λ (r : Row g.row.P). numbers r) new.1
           ∙ c.values_of-values.ensures.numbers
-          ∙ ap (λ t. values g.row.P t c.in-Ok.list.now) spots.3
+          ∙ ap (λ t. values g.row.P t c.in_ok-list.list.now) spots.3
           ∙ ap (values g.row.P (points g.row.P c.args.m)) read.0);
     }

@@ -1,23 +1,29 @@
-use Rattle.std.proofs.Common.{ℕ, ◌<◌, List, length, sym, ap, ◌∙◌, arith}
-use Rattle.std.proofs.lemmas.Bool.{eqb-true, eqb-false}
-use Rattle.script.specs.Words.{words}
-use Rattle.script.proofs.Cuts.{after_blanks, begins_word, first_word, no_words}
+use Rattle.std.proofs.Common.{◌≡◌, rules, not, sym, ◌∙◌, arith}
+use Rattle.std.proofs.lemmas.Iterator.{YieldsList-from_slice}
+use Rattle.std.proofs.lemmas.Iterator.Search.{position_from_yields_List}
+use Rattle.std.proofs.lemmas.List.{length-drop, take_all}
+use Rattle.std.specs.List.{position}
+use Rattle.script.specs.Words.{blank}
+use Rattle.script.proofs.Cuts.{none_begins, word_between}
 use Rattle.script.proofs.words.split_word.Goals as goal
+use borrow.Author.Tests.{tests}
 
-pub returns-then-is_empty : goal.returns-then-is_empty
-returns-then-is_empty c =
-    after_blanks c.args.text.now c.run.result c.run.ensures.within c.run.ensures.before
-    ∙ ap words (sym c.split_at.ensures.back)
-    ∙ no_words c.split_at.result.1.now (eqb-true _ 0 (sym c.if-is_empty.ensures))
+pub returns-in_err-start : goal.returns-in_err-start
+returns-in_err-start c =
+    let begins : c.position.result ≡ position (λ b. not (blank b)) c.args.text.now =
+    position_from_yields_List (λ b. not (blank b)) _ _ c.position.result c.position.ensures.ran
+    (YieldsList-from_slice _ c.iter.ensures.rest) (λ x b q k. search (rules, tests)) in
+    rw c.from_residual.ensures (none_begins c.args.text.now (sym c.in_err-start.was ∙ begins))
 
 pub returns : goal.returns
 returns c =
-    let text : List ℕ = c.split_at.result.1.now in
-    let some : 0 < length text = omega (arith, eqb-false (length text) 0 (sym c.if-is_empty.ensures)) in
-    let begins =
-    begins_word c.args.text.now text c.run.result c.split_at.ensures.back some c.run.ensures.over in
-    let skips = after_blanks c.args.text.now c.run.result c.run.ensures.within c.run.ensures.before in
-    let splits =
-    first_word text c.run-2.result c.run-2.ensures.within some begins
-    c.run-2.ensures.before c.run-2.ensures.over in
-    cc
+    let begins : c.position.result ≡ position (λ b. not (blank b)) c.args.text.now =
+    position_from_yields_List (λ b. not (blank b)) _ _ c.position.result c.position.ensures.ran
+    (YieldsList-from_slice _ c.iter.ensures.rest) (λ x b q k. search (rules, tests)) in
+    let ends =
+    position_from_yields_List blank _ _ c.position-2.result c.position-2.ensures.ran
+    (YieldsList-from_slice _ c.iter-2.ensures.rest) (λ x b q k. search (rules, tests)) in
+    rw (c.split_at.ensures.front, c.split_at.ensures.back)
+    (word_between c.args.text.now _ c.in_ok-start.start c.unwrap_or-end.result c.position-2.result
+    (sym c.in_ok-start.was ∙ begins)
+    (take_all _ _ (omega (arith, length-drop c.in_ok-start.start c.args.text.now))) ends c.unwrap_or-end.ensures)

@@ -1,20 +1,34 @@
--- What is kept of a rising list rises, and is what the other list lacks.
-use Rattle.std.proofs.Common.{◌≡◌, vec_items, ap, ◌∙◌}
+-- The numbers of the merge that are in this list alone: what is kept of a rising list rises, and is what the other lacks.
+use Rattle.std.proofs.Common.{◌≡◌, Ok, vec_items, rules, tests, ap, ◌∙◌}
+use Rattle.std.specs.declared.alloc.AllocError.{AllocError}
+use Rattle.std.proofs.lemmas.Iterator.{YieldsList-from_map, items_from_collect}
+use Rattle.std.proofs.lemmas.Iterator.Consumers.{YieldsList-at, YieldsList-from_first, YieldsList-from_filter}
 use Rattle.sorted.specs.Lists.{brought, only, rising}
+use Rattle.sorted.specs.Merged.{left_to_merge, merged}
 use Rattle.sorted.specs.Sorted.{items_of}
 use Rattle.sorted.proofs.Difference.{only_rising}
 use Rattle.sorted.proofs.Distance.{brought_there}
+use Rattle.sorted.proofs.MergeSteps.{is_left, merged_parts}
 use Rattle.sorted.proofs.SortedList.difference.Goals as goal
+use Rattle.sorted.proofs.SortedList.difference.Goals.{In_ok-items}
+
+kept : (c : In_ok-items) → vec_items c.in_ok-items.items ≡ only (items_of c.args.self.now) (items_of c.args.other.now)
+kept c =
+    let xs = items_of c.args.self.now in
+    let ys = items_of c.args.other.now in
+    items_from_collect {E = AllocError} (Ok c.in_ok-items.items) c.in_ok-items.ensures.ran
+    (YieldsList-from_map _ (λ p. p.1)
+    (YieldsList-at c.map.ensures.source
+    (YieldsList-from_filter _ (λ p. is_left p.0)
+    (YieldsList-from_first (λ p. p) left_to_merge (merged xs ys) (ap left_to_merge c.filter.ensures.source ∙ c.merge.ensures))
+    c.filter.ensures.closure (λ x r q k. search (rules, tests))))
+    c.map.ensures.closure (λ x r q k. search (rules, tests)))
+    ∙ (merged_parts xs ys c.args.self.now.sorted c.args.other.now.sorted).left
 
 pub invariant_of-result : goal.invariant_of-result
-invariant_of-result c = record { sorted = ap rising c.in_ok-items.ensures ∙ only_rising _ _ c.as_slice.ensures.rises }
+invariant_of-result c = record { sorted = ap rising (kept c) ∙ only_rising _ _ c.args.self.now.sorted }
 
 pub returns : goal.returns
 returns c =
-    record {
-      items = kept;
-      does = ap (brought _ _) kept ∙ brought_there _ _ c.args.self.now.sorted c.args.other.now.sorted;
-    }
-  where
-    kept : vec_items c.in_ok-items.items ≡ only (items_of c.args.self.now) (items_of c.args.other.now)
-    kept = cc (c.in_ok-items.ensures, c.as_slice.ensures.value, c.as_slice-2.ensures.value)
+    let items = kept (goal.at.returns c).In_ok-items in
+    record { items = items; does = ap (brought _ _) items ∙ brought_there _ _ c.args.self.now.sorted c.args.other.now.sorted }

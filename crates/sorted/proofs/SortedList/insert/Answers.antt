@@ -1,6 +1,6 @@
 -- The list before rises, and the search gave the place.
-use Rattle.std.proofs.Common.{refl, ◌∙◌}
-use Rattle.sorted.proofs.Places.{inserted_new, inserted_there, rising_inserted}
+use Rattle.std.proofs.Common.{refl}
+use Rattle.sorted.proofs.Places.{inserted_there, rising_inserted}
 use Rattle.sorted.proofs.SortedList.insert.Goals as goal
 
 pub invariant_of-self : goal.invariant_of-self
@@ -9,8 +9,3 @@ invariant_of-self c =
 
 pub returns-in-Ok : goal.returns-in-Ok
 returns-in-Ok c = inserted_there _ _ _ c.args.self.now.sorted c.in-Ok.ensures.there refl
-
-pub returns-in_ok-insert-in-Err : goal.returns-in_ok-insert-in-Err
-returns-in_ok-insert-in-Err c =
-    inserted_new _ _ _ c.args.self.now.sorted c.in-Err.ensures.absent
-    (c.in_ok-insert-in-Err.ensures.items ∙ c.in-Err.ensures.given)

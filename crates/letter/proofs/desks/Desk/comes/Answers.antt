@@ -1,4 +1,5 @@
 use Rattle.std.proofs.Common.{◌+◌, ◌-◌, ◌%◌, ◌^◌, length, sym, refl, ap, ◌∙◌, inl, inr, arith}
+use Rattle.std.proofs.lemmas.Result.{err_from_is_err_and}
 use Rattle.sorted.specs.Lists.{all_below}
 use Rattle.letter.specs.Letter.{points, values}
 use Rattle.letter.specs.Rows.{numbers}
@@ -32,13 +33,15 @@ returns-then-len-ge-CAPACITY g c =
       right = up_to_date_by g.row.P self.nodes.len _ _ self.list.sorted self.below self.right;
     }
 
-pub returns-in_default-insert : goal.returns-in_default-insert
+pub returns-in_err-insert : goal.returns-in_err-insert
 unfolding desk_of
-returns-in_default-insert g c =
+returns-in_err-insert g c =
     let self = c.args.self.now in
     let welcome = c.in-Some.ensures in
-    let unchanged = c.in_default-insert.ensures in
-    record {
+    let unchanged = c.in_err-insert.ensures in
+    let p = err_from_is_err_and c.from_residual.result c.from_residual.ensures.1 in
+    rw (p.1, p.2)
+    (record {
       done =
           record {
             same = ap (λ t. record { list = t; letter_now = record { many = length t; at = numbers self.kept } }) unchanged;
@@ -50,13 +53,13 @@ returns-in_default-insert g c =
           up_to_date_by g.row.P self.nodes.len _ _ c.insert.new.self.sorted
           (ap (all_below (g.row.P - self.nodes.len)) unchanged ∙ self.below)
           (self.right ∙ ap (values g.row.P (points g.row.P self.nodes.len)) (sym unchanged));
-    }
+    })
 
 pub invariant_of-self-2 : goal.invariant_of-self-2
 invariant_of-self-2 g c =
     let self = c.args.self.now in
     let welcome = c.in-Some.ensures in
-    let put_in = c.in-Ok.ensures.items in
+    let put_in = c.in_ok-insert.ensures.items in
     let row = came_row g.row.P self.nodes.len c.args.n c.in-Some.residue.value _ _ _ self.spots welcome.residue c.times_each-self.ensures.numbers in record {
       room = self.room;
       spots = self.spots;
@@ -71,7 +74,7 @@ unfolding desk_of
 returns g c =
     let self = c.args.self.now in
     let welcome = c.in-Some.ensures in
-    let put_in = c.in-Ok.ensures.items in
+    let put_in = c.in_ok-insert.ensures.items in
     let row = came_row g.row.P self.nodes.len c.args.n c.in-Some.residue.value _ _ _ self.spots welcome.residue c.times_each-self.ensures.numbers in
     record {
       done =

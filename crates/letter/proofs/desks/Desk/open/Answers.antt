@@ -1,12 +1,9 @@
-use Rattle.std.proofs.Common.{sym, refl, ap, ◌∙◌, arith}
+use Rattle.std.proofs.Common.{sym, ap, ◌∙◌, arith}
 use Rattle.letter.specs.Letter.{points, values}
 use Rattle.letter.specs.Desks.{desk_of}
 use Rattle.letter.proofs.Keeping.{empty_below, empty_few, bare_by}
 use Rattle.letter.proofs.Points.{length_points}
 use Rattle.letter.proofs.desks.Desk.open.Goals as goal
-
-pub returns-in_default : goal.returns-in_default
-returns-in_default g c = record { due = c.in_default.ensures; number_is = refl; place_is = refl }
 
 pub invariant_of-result : goal.invariant_of-result
 invariant_of-result g c =

@@ -1,6 +1,6 @@
 -- The words that were read are fine, and stand in the row.
 use Rattle.std.proofs.Common.{◌≡◌, length, get_or}
-use Rattle.letter.specs.Rows.{plain}
+use Rattle.field.specs.Plain.{plain}
 use Rattle.letter.specs.Slices.{ValuesTo}
 use Rattle.letter.proofs.Filled.{Filled}
 use Rattle.letter.proofs.row.Row.read.Given as goal

@@ -1,22 +1,23 @@
 -- Each turn writes one number more.
-use Rattle.std.proofs.Common.{◌∙◌, arith}
-use Rattle.letter.specs.Rows.{numbers, plain}
-use Rattle.letter.proofs.Filled.{plain_length, plain_get}
-use Rattle.letter.proofs.Words.{written_none, written_more, written_all}
+use Rattle.std.proofs.Common.{refl, ◌∙◌, arith}
+use Rattle.letter.specs.Rows.{numbers}
+use Rattle.letter.proofs.Rows.{length_numbers, shown_length, shown_entry}
+use Rattle.letter.proofs.Words.{written_more, written_all}
 use Rattle.letter.proofs.row.Row.write.Goals as goal
 
 pub loop-i-init : goal.loop-i-init
-loop-i-init g c = written_none c.args.from (plain c.args.self.at) c.args.out.now
+loop-i-init g c = (shown_length c.args.self c.as_slice-x-items.result.now c.as_slice-x-items.ensures, refl)
 
 pub loop-i-preserved : goal.loop-i-preserved
 loop-i-preserved g c =
-    let size = plain_length c.args.self.at in
-    written_more c.args.from (plain c.args.self.at) c.args.out.now c.loop-i.out c.loop-i.i c.number.result
-    c.loop-i.invariant (omega arith) (omega arith)
-    (c.number.ensures ∙ plain_get c.args.self.at c.loop-i.i _ (omega arith))
+    let shown = c.as_slice-x-items.result.now in (
+      c.loop-i.invariant.0,
+      written_more (numbers c.args.self) c.args.out.now c.loop-i.out c.loop-i.i c.number.result
+          c.loop-i.invariant.1 (omega arith) (omega (arith, length_numbers c.args.self))
+          (c.number.ensures ∙ shown_entry c.args.self shown c.loop-i.i c.x-item.result c.as_slice-x-items.ensures (omega arith) c.x-item.is),
+    )
 
 pub returns : goal.returns
-unfolding numbers
 returns g c =
-    written_all c.args.from (plain c.args.self.at) c.args.out.now c.loop-i.out c.loop-i.i c.args.self.len
-    c.loop-i.invariant (omega arith)
+    written_all (numbers c.args.self) c.args.out.now c.loop-i.out c.loop-i.i c.args.self.len
+    c.loop-i.invariant.1 (omega arith) (length_numbers c.args.self)

@@ -1,7 +1,6 @@
-use Rattle.std.proofs.Common.{◌≡◌, ◌+◌, ◌<◌, ◌≤◌, ◌⊎◌, [], ◌∷◌, ◌++◌, map, replicate, vec_items, refl, ap, ◌∙◌, inl, inr, arith}
-use Rattle.std.proofs.lemmas.List.{map_push, replicate_more}
+use Rattle.std.proofs.Common.{◌≡◌, ◌<◌, ◌≤◌, ◌⊎◌, [], replicate, refl, ap, ◌∙◌, inl, inr, arith}
+use Rattle.std.proofs.lemmas.Result.{err_from_is_err_and}
 use Rattle.sites.specs.Network.{NotOpened, lists_of}
-use Rattle.sites.specs.Site.{site_list}
 use Rattle.sites.proofs.network.Sites.open.Goals as goal
 
 pub returns-then-n-lt-FEWEST : goal.returns-then-n-lt-FEWEST
@@ -12,40 +11,19 @@ returns-then-n-lt-FEWEST g c = inl ((refl, refl), either c.then-n-lt-FEWEST.eith
     either (inl few) = inl few
     either (inr many) = inr many.1
 
-pub returns-in-Err : goal.returns-in-Err
+pub returns-in_err-site : goal.returns-in_err-site
 unfolding NotOpened
-returns-in-Err g c =
-    let small = c.in-Err.ensures in
-    inr (omega (arith, c.if-n-lt-FEWEST.false), omega (arith, c.if-n-gt-MOST.false), inl (small.1, small.0))
+returns-in_err-site g c =
+    let p = err_from_is_err_and c.from_residual.result c.from_residual.ensures.1 in
+    let small = c.in_err-site.ensures in
+    rw (p.1, p.2) (inr (omega (arith, c.if-n-lt-FEWEST.false), omega (arith, c.if-n-gt-MOST.false), inl (small.1, small.0)))
 
-pub returns-in_default : goal.returns-in_default
+pub returns-in_err-map_err : goal.returns-in_err-map_err
 unfolding NotOpened
-returns-in_default g c =
-    inr (omega (arith, c.if-n-lt-FEWEST.false), omega (arith, c.if-n-gt-MOST.false), inr (refl, c.in-Ok.ensures.0))
-
-pub loop-k-init : goal.loop-k-init
-loop-k-init g c =
-    (ap (map (λ x. site_list x)) c.new-sites.ensures.items, c.new-sites.ensures.len, (λ some. absurd (omega (arith, some))))
-
-pub loop-k-preserved : goal.loop-k-preserved
-loop-k-preserved g c =
-    let inv = c.loop-k.invariant in
-    let fresh = c.in-Ok.ensures in
-    let pushed = c.in-Ok-push.ensures in
-    let items = pushed.items in (
-      ap (map (λ x. site_list x)) items
-          ∙ map_push (λ x. site_list x) (vec_items c.loop-k.sites) c.in-Ok.site
-          ∙ ap (λ ls. ls ++ site_list c.in-Ok.site ∷ []) inv.0
-          ∙ ap (λ ns. replicate c.loop-k._k [] ++ ns ∷ []) fresh.1
-          ∙ replicate_more c.loop-k._k [],
-      pushed.len ∙ ap (λ n. n + 1) inv.1,
-      (λ some. fresh.0),
-    )
-
-pub invariant_of-result : goal.invariant_of-result
-invariant_of-result g c =
-    let inv = c.loop-k.invariant in
-    record { several = omega (arith, inv.1, c.if-n-lt-FEWEST.false); few = omega (arith, inv.1, c.if-n-gt-MOST.false) }
+returns-in_err-map_err g c =
+    let p = err_from_is_err_and c.from_residual-in_err-map_err.result c.from_residual-in_err-map_err.ensures.1 in
+    rw (p.1, p.2)
+    (inr (omega (arith, c.if-n-lt-FEWEST.false), omega (arith, c.if-n-gt-MOST.false), inr (refl, c.in_ok-site.ensures.0)))
 
 pub returns : goal.returns
 unfolding lists_of

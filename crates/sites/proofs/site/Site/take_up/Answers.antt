@@ -1,35 +1,18 @@
-use Rattle.std.proofs.Common.{◌≡◌, sym, refl, subst, MatchResult}
+use Rattle.std.proofs.Common.{◌≡◌, sym, ap, ◌∙◌}
 use Rattle.letter.specs.Desks.{desk_of, desk_size}
 use Rattle.decode.specs.Numbers.{listed}
-use Rattle.sites.specs.Site.{site_list}
-use Rattle.sites.specs.Taking.{taken_up, Untaken}
-use Rattle.sites.specs.declared.ladder.Way.{Way}
-use Rattle.sites.specs.declared.ladder.Way.TheVariants.{Take, Join}
+use Rattle.sites.specs.Taking.{going}
 use Rattle.sites.proofs.Taking.{taken}
 use Rattle.sites.proofs.site.Site.take_up.Goals as goal
+use Rattle.sites.proofs.site.Site.take_up.Goals.{in-Take, in-Join}
 
-pub returns-in-Take : goal.returns-in-Take
-returns-in-Take g c =
-    subst
-    (λ (w : Way).
-    MatchResult c.exchange.result
-    (λ _. (desk_of c.exchange.new.self).list ≡ taken_up w (site_list c.args.self.now) (listed c.args.difference.gone) (listed c.args.difference.come))
-    (λ e. ((desk_of c.exchange.new.self).list ≡ site_list c.args.self.now)
-    × Untaken g.row.P w (site_list c.args.self.now) (listed c.args.difference.gone) (listed c.args.difference.come) e))
-    (sym c.in-Take.is)
-    (taken g.row.P (desk_size c.args.self.now.desk) Take (desk_of c.args.self.now.desk) (desk_of c.exchange.new.self)
-    (listed c.args.difference.gone) (listed c.args.difference.come) _ _ _ _ c.exchange.result c.args.self.now.size
-    c.gone.ensures c.come.ensures c.exchange.ensures.done)
-
-pub returns-in-Join : goal.returns-in-Join
-returns-in-Join g c =
-    subst
-    (λ (w : Way).
-    MatchResult c.exchange-in-Join.result
-    (λ _. (desk_of c.exchange-in-Join.new.self).list ≡ taken_up w (site_list c.args.self.now) (listed c.args.difference.gone) (listed c.args.difference.come))
-    (λ e. ((desk_of c.exchange-in-Join.new.self).list ≡ site_list c.args.self.now)
-    × Untaken g.row.P w (site_list c.args.self.now) (listed c.args.difference.gone) (listed c.args.difference.come) e))
-    (sym c.in-Join.is)
-    (taken g.row.P (desk_size c.args.self.now.desk) Join (desk_of c.args.self.now.desk) (desk_of c.exchange-in-Join.new.self)
-    (listed c.args.difference.gone) (listed c.args.difference.come) _ _ _ _ c.exchange-in-Join.result c.args.self.now.size
-    refl c.come-in-Join.ensures c.exchange-in-Join.ensures.done)
+pub returns : goal.returns
+returns g c =
+    let told = listed c.args.difference.gone in
+    let gone : c.match-way.gone.now ≡ going c.args.way told =
+    elim c.match-way.branch [
+      | in-Take w ↦ ap (λ t. t.now) w.gone-is ∙ w.gone-gone.ensures ∙ sym (ap (λ t. going t told) w.in-Take.is)
+      | in-Join w ↦ ap (λ t. t.now) w.gone-is ∙ sym (ap (λ t. going t told) w.in-Join.is)
+    ] in
+    taken g.row.P (desk_size c.args.self.now.desk) c.args.way (desk_of c.args.self.now.desk) (desk_of c.exchange.new.self) told
+    (listed c.args.difference.come) _ _ _ _ c.exchange.result c.args.self.now.size gone c.come.ensures c.exchange.ensures.done

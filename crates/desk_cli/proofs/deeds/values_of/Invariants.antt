@@ -1,6 +1,0 @@
-use Rattle.std.proofs.Common.{◌≡◌, take, vec_items}
-use Rattle.letter.specs.Rows.{numbers}
-use Rattle.desk_cli.proofs.deeds.values_of.Given as goal
-
-abbrev pub invariant-loop-i : goal.invariant-loop-i
-invariant-loop-i l = vec_items l.values ≡ take l.i (numbers l.row)
