@@ -114,7 +114,7 @@ def point_2():
             continue
         for m in re.finditer(r"^(?:pub(?:\(\w+\))? )?struct (\w+)[^{;]*\{(.*?)\n\}", text, re.M | re.S):
             fields = re.findall(r"^    (?:pub(?:\(crate\))? )?\w+: (.*),$", m.group(2), re.M)
-            shape = tuple(sorted(re.sub(r"\[.*; (\d+)\]", "array", f) for f in fields))
+            shape = tuple(sorted(re.sub(r"\[.*; (\w+)\]", "array", f) for f in fields))
             if len(shape) > 1:
                 types[shape].append(f"{path}:{line_of(text, m.start())} {m.group(1)}")
     for shape, where in types.items():
@@ -182,7 +182,7 @@ def point_6():
         if tests(path):
             continue
         for m in re.finditer(r"^(?:pub(?:\(\w+\))? )?struct (\w+)[^{;]*\{(.*?)\n\}", text, re.M | re.S):
-            if re.search(r": \[[^\]]*; \d+\],", m.group(2)) and re.search(r": usize,", m.group(2)):
+            if re.search(r": \[[^\]]*; \w+\],", m.group(2)) and re.search(r": usize,", m.group(2)):
                 say(path, text, m.start(), f"struct {m.group(1)}: an array and a length")
         for name, at, parameters, clauses, body in functions(text):
             slices = [p for p in parameters if re.search(r": &(mut )?\[", p)]

@@ -89,6 +89,7 @@ fn going(note: &[u64], list: &[u64], n: u64) -> Result<Step, Refusal>
 }
 
 // A number goes.
+// Kept: ends as `comes` does; a call that lends both slices would be no shorter than these lines.
 pub(crate) fn goes(note: &mut [u64], list: &mut [u64], n: u64) -> Result<(), Refusal>
     ensures { MatchResult result (λ _. Went note.old list.old n note.new list.new) (λ e. NotWent note.old list.old n (number e) (place e) note.new list.new) }
 {

@@ -100,6 +100,7 @@ impl Session {
     }
 
     // The list of site i.
+    // Kept: the shape of `letter` too; with the call and its line as closures the two would be no shorter.
     fn list(&self, i: u64) -> Result<String, AllocError>
         ensures { IfOk result (λ s. ListTold i (lists_in self.now.sites) (string_bytes s)) }
     {
