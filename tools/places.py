@@ -25,12 +25,10 @@ import sys
 
 
 def sources():
+    """Path and text of each source but those of tests."""
     for path in sorted(glob.glob("crates/*/src/**/*.rt", recursive=True)):
-        yield path, open(path, encoding="utf-8").read()
-
-
-def tests(path):
-    return "_tests/" in path or path.endswith("/tests.rt")
+        if "_tests/" not in path and not path.endswith("/tests.rt"):
+            yield path, open(path, encoding="utf-8").read()
 
 
 def line_of(text, at):
@@ -67,14 +65,18 @@ def functions(text):
         yield m.group(2), m.start(), parameters, clauses, block(text, end.start())
 
 
+def structs(text):
+    """Name, place and fields of each struct."""
+    for m in re.finditer(r"^(?:pub(?:\(\w+\))? )?struct (\w+)[^{;]*\{(.*?)\n\}", text, re.M | re.S):
+        yield m.group(1), m.start(), m.group(2)
+
+
 def say(path, text, at, what):
     print(f"    {path}:{line_of(text, at)}: {what}")
 
 
 def point_1():
     for path, text in sources():
-        if tests(path):
-            continue
         for m in re.finditer(r"Err\((\w+)\) => (?:return )?(\w+(?:::\w+)*\(\1\)|\w+\(\w+::\w+\(\1\)\)|Err\(.*\)),", text):
             say(path, text, m.start(), m.group(0))
         for m in re.finditer(r"Err\((\w+)\) => return .*,", text):
@@ -96,8 +98,6 @@ def point_2():
     words = re.compile(r"\w+|[^\s\w]")
     found = []
     for path, text in sources():
-        if tests(path):
-            continue
         for name, at, parameters, clauses, body in functions(text):
             body = re.sub(r"//.*", "", body)
             found.append((path, line_of(text, at), name, parameters, words.findall(body)))
@@ -110,13 +110,11 @@ def point_2():
             print(f"    {a[0]}:{a[1]} / {b[0]}:{b[1]}: two functions {a[2]}({', '.join(a[3])})")
     types = collections.defaultdict(list)
     for path, text in sources():
-        if tests(path):
-            continue
-        for m in re.finditer(r"^(?:pub(?:\(\w+\))? )?struct (\w+)[^{;]*\{(.*?)\n\}", text, re.M | re.S):
-            fields = re.findall(r"^    (?:pub(?:\(crate\))? )?\w+: (.*),$", m.group(2), re.M)
+        for name, at, inside in structs(text):
+            fields = re.findall(r"^    (?:pub(?:\(crate\))? )?\w+: (.*),$", inside, re.M)
             shape = tuple(sorted(re.sub(r"\[.*; (\w+)\]", "array", f) for f in fields))
             if len(shape) > 1:
-                types[shape].append(f"{path}:{line_of(text, m.start())} {m.group(1)}")
+                types[shape].append(f"{path}:{line_of(text, at)} {name}")
     for shape, where in types.items():
         if len(where) > 1:
             print(f"    types of ({', '.join(shape)}): {', '.join(where)}")
@@ -124,8 +122,6 @@ def point_2():
 
 def point_3():
     for path, text in sources():
-        if tests(path):
-            continue
         for m in re.finditer(r"for (\w+) in ([^{\n]*\.\.[^{\n]*) \{", text):
             body = block(text, m.end() - 1)
             if re.search(r"\[[^\]\n]*\b%s\b[^\]\n]*\]" % m.group(1), body) or re.search(
@@ -143,8 +139,6 @@ def point_3():
 
 def point_4():
     for path, text in sources():
-        if tests(path):
-            continue
         for m in re.finditer(r"\.number\(\) == \S+|impl(?:<[^>]*>)? (?:PartialEq|Eq|PartialOrd|Ord|Clone|Copy)\b.*", text):
             say(path, text, m.start(), m.group(0))
         for name, at, parameters, clauses, body in functions(text):
@@ -161,8 +155,6 @@ def point_5():
     facts = collections.defaultdict(list)
     together = collections.defaultdict(list)
     for path, text in sources():
-        if tests(path):
-            continue
         for name, at, parameters, clauses, body in functions(text):
             for kind, fact in re.findall(r"(requires|ensures)\s*\w*\s*\{(.*)\}\s*$", clauses, re.M):
                 for part in fact.split(" × "):
@@ -179,11 +171,9 @@ def point_5():
 
 def point_6():
     for path, text in sources():
-        if tests(path):
-            continue
-        for m in re.finditer(r"^(?:pub(?:\(\w+\))? )?struct (\w+)[^{;]*\{(.*?)\n\}", text, re.M | re.S):
-            if re.search(r": \[[^\]]*; \w+\],", m.group(2)) and re.search(r": usize,", m.group(2)):
-                say(path, text, m.start(), f"struct {m.group(1)}: an array and a length")
+        for name, at, inside in structs(text):
+            if re.search(r": \[[^\]]*; \w+\],", inside) and re.search(r": usize,", inside):
+                say(path, text, at, f"struct {name}: an array and a length")
         for name, at, parameters, clauses, body in functions(text):
             slices = [p for p in parameters if re.search(r": &(mut )?\[", p)]
             lengths = [p for p in parameters if re.match(r"(len|count|width|unknowns|m|degree|at|from|to): usize", p)]
@@ -193,8 +183,6 @@ def point_6():
 
 def point_7():
     for path, text in sources():
-        if tests(path):
-            continue
         for m in re.finditer(r"match (direction|way|deed|step|kind|verb)\b[^{\n]*\{", text):
             body = block(text, m.end() - 1)
             if len(re.findall(r"=> \{?\s*\S*\w+\(", body)) >= 2:

@@ -15,7 +15,7 @@ use std::alloc::{AllocError, Global};
 
 // The sites that a script speaks of, none before they are opened, and the memory for them and for the lines.
 #[derive(Drop)]
-pub(crate) struct Session {
+pub(crate) struct Console {
     heap: Global,
     sites: Option<Sites<PRIME>>,
 }
@@ -55,12 +55,12 @@ fn way_of(way: Said) -> Way
     }
 }
 
-impl Session {
+impl Console {
     // No sites are opened yet.
-    pub(crate) fn new(heap: Global) -> Session
+    pub(crate) fn new(heap: Global) -> Console
         ensures { lists_in result.sites ≡ [] }
     {
-        Session { heap, sites: None }
+        Console { heap, sites: None }
     }
 
     // Opens n sites, in place of those that there were.

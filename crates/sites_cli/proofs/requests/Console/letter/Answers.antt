@@ -4,7 +4,7 @@ use Rattle.letter.specs.Letter.{Letter}
 use Rattle.lines.specs.Text.{letter_text}
 use Rattle.sites_cli.specs.Told.{LetterTold, lists_in}
 use Rattle.sites_cli.proofs.Lines.{none_absent}
-use Rattle.sites_cli.proofs.requests.Session.letter.Goals as goal
+use Rattle.sites_cli.proofs.requests.Console.letter.Goals as goal
 
 pub returns-in_default : goal.returns-in_default
 unfolding LetterTold

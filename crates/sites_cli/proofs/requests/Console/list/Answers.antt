@@ -3,7 +3,7 @@ use Rattle.std.proofs.lemmas.Result.{IfOk-weaker}
 use Rattle.lines.specs.Text.{list_text}
 use Rattle.sites_cli.specs.Told.{ListTold, lists_in}
 use Rattle.sites_cli.proofs.Lines.{none_absent}
-use Rattle.sites_cli.proofs.requests.Session.list.Goals as goal
+use Rattle.sites_cli.proofs.requests.Console.list.Goals as goal
 
 pub returns-in_default : goal.returns-in_default
 unfolding ListTold

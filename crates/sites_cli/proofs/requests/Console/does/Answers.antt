@@ -4,7 +4,7 @@ use Rattle.letter.specs.declared.refusals.Refusal.TheVariants.{Site}
 use Rattle.letter.specs.Desks.{deed_of}
 use Rattle.sites_cli.specs.Told.{lists_in}
 use Rattle.sites_cli.proofs.Lines.{none_passed}
-use Rattle.sites_cli.proofs.requests.Session.does.Goals as goal
+use Rattle.sites_cli.proofs.requests.Console.does.Goals as goal
 
 pub returns-in_default : goal.returns-in_default
 returns-in_default c =

@@ -1,7 +1,7 @@
 use Rattle.std.proofs.lemmas.Result.{IfOk-weaker}
 use Rattle.sites_cli.specs.Told.{lists_in}
 use Rattle.sites_cli.proofs.Lines.{none_asked, none_truly}
-use Rattle.sites_cli.proofs.requests.Session.ask.Goals as goal
+use Rattle.sites_cli.proofs.requests.Console.ask.Goals as goal
 
 pub returns-in_default : goal.returns-in_default
 returns-in_default c =

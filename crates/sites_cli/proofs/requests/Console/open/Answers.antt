@@ -1,7 +1,7 @@
 use Rattle.std.proofs.Common.{refl, inl, inr}
 use Rattle.std.proofs.lemmas.Result.{IfOk-weaker}
 use Rattle.sites_cli.specs.Told.{OpenTold, lists_in}
-use Rattle.sites_cli.proofs.requests.Session.open.Goals as goal
+use Rattle.sites_cli.proofs.requests.Console.open.Goals as goal
 
 pub returns-in-Ok : goal.returns-in-Ok
 unfolding OpenTold lists_in
