@@ -1,7 +1,7 @@
 -- What writes to a lent row leave there.
 use Rattle.std.proofs.Common.{◌≡◌, ℕ, ◌+◌, ◌-◌, ◌≤◌, List, ◌++◌, length, take, drop, Some, Option, refl, ap, ◌∙◌, subst, arith}
 use borrow.Rule.Slice.PartMut.{put_mid, post_of}
-use Rattle.std.proofs.lemmas.List.{take_at, drop_at, drop-drop, drop_all, take_rest, append-nil, length-drop}
+use Rattle.std.proofs.lemmas.List.{take_at, drop_at, drop-drop, drop_all, take_rest, append-nil, length-append, length-drop}
 use Rattle.decode.specs.Entry.{Room, Tells}
 use Rattle.decode.specs.declared.entry.Reply.TheVariants.{These}
 use Rattle.decode.specs.declared.numbers.Difference.{Difference}
@@ -29,16 +29,18 @@ both_written gone come out mid end room first second =
     (drop_all (length mid - w) (drop w mid) (omega (arith, length-drop w mid)))
     ∙ ap (λ t. gone ++ t) (append-nil (come ++ drop (w + n) out))
 
--- behind the numbers gone there is room for the numbers come
-pub rest_room : (gone come out mid : List ℕ)
+-- from any place among the numbers gone, or from where they end, there is room for the numbers come
+pub rest_room : (gone come out mid : List ℕ) (from : ℕ)
+    → from ≤ length gone
     → length gone + length come ≤ length out
     → mid ≡ gone ++ drop (length gone) out
-    → length come ≤ length (take (length mid - length gone) (drop (length gone) mid))
-rest_room gone come out mid room first =
-    let rest : length (take (length mid - length gone) (drop (length gone) mid)) ≡ length out - length gone =
-    ap length (take_rest mid (length gone) ∙ ap (drop (length gone)) first ∙ drop_at gone (drop (length gone) out) (length gone) refl)
-    ∙ length-drop (length gone) out in
-    omega arith
+    → length come ≤ length (take (length mid - from) (drop from mid))
+rest_room gone come out mid from low room first =
+    let part : length (take (length mid - from) (drop from mid)) ≡ length mid - from =
+    ap length (take_rest mid from) ∙ length-drop from mid in
+    let whole : length mid ≡ length gone + length (drop (length gone) out) =
+    ap length first ∙ length-append gone (drop (length gone) out) in
+    omega (arith, part, whole, length-drop (length gone) out)
 
 module _ (f : Difference) (gone come : List ℕ) (gone_is : gone ≡ listed f.gone) (come_is : come ≡ listed f.come) where
   gone_size : length gone ≡ f.gone.len

@@ -1,11 +1,35 @@
 -- Powers of p, and that of more lists than p to the m two have the same row of m values below p.
-use Rattle.std.proofs.Common.{◌≡◌, ℕ, zero, suc, ◌+◌, ◌*◌, ◌/◌, ◌%◌, ◌^◌, ◌<◌, ◌≤◌, List, [], ◌∷◌, length, get_or, sym, refl, ap, ◌∙◌, mod-eq_of_lt, mul-le-mul, arith}
+use Rattle.std.proofs.Common.{◌≡◌, ℕ, zero, suc, ◌+◌, ◌*◌, ◌/◌, ◌%◌, ◌^◌, ◌<◌, ◌≤◌, List, [], ◌∷◌, length, get_or, sym, refl, ap, ◌∙◌, mod-eq_of_lt, mul_comm, mul-le-mul, add-one, arith}
 use native.Mathlib.Nat.{add-mul-mod_self_left, mul-div_cancel_left}
+use native.Mathlib.Decide.{ℕ_discrete}
 use Rattle.std.proofs.Math.Nat.{pow-succ', pow-zero}
 use Rattle.field.specs.Polynomial.{Below}
 use Rattle.field.proofs.Pigeonhole.{pigeonhole}
 use Rattle.letter.proofs.Bridges.{below_from_all}
 use Rattle.explain.specs.Promise.{powers, SomeLettersAlike}
+
+zero_only : (i : ℕ) → i ≤ 0 → i ≡ 0
+zero_only i l = omega arith
+
+pub powers_none : (p : ℕ) → powers p 0 ≡ 1
+unfolding powers
+powers_none p = refl
+
+pub powers_more : (p i : ℕ) → powers p (i + 1) ≡ powers p i * p
+unfolding powers
+powers_more p i = ap (powers p) (add-one i) ∙ mul_comm p (powers p i)
+
+-- with a positive base powers do not fall
+pub powers_grow : (p i m : ℕ) → 0 < p → i ≤ m → powers p i ≤ powers p m
+unfolding powers
+powers_grow p i zero pos l = rw (zero_only i l) (omega arith)
+powers_grow p i (suc m) pos l = go (ℕ_discrete i (suc m)) (powers_grow p i m pos)
+  where
+    go : Dec (i ≡ suc m) → (i ≤ m → powers p i ≤ powers p m) → powers p i ≤ powers p (suc m)
+    go (yes last) before = rw last (omega arith)
+    go (no other) before =
+        let more : 1 * powers p m ≤ p * powers p m = mul-le-mul pos (omega arith) in
+        omega (arith, before (omega arith))
 
 pub powers_are : (p m : ℕ) → p ^ m ≡ powers p m
 unfolding powers

@@ -20,6 +20,13 @@ has_from_among z [] m = absurd m
 has_from_among z (n ∷ ns) (inl e) = ap (has (n ∷ ns)) e ∙ has_first n ns
 has_from_among z (n ∷ ns) (inr m) = has_later n z ns (has_from_among z ns m)
 
+-- a number that is not found is not there
+pub not_among : (z : ℕ) (ns : List ℕ) → has ns z ≡ false → Among z ns → ⊥
+not_among z ns h m =
+    let t = has_from_among z ns m in
+    let e : ◌≡◌ {A = ℕ} 0 1 = cc in
+    omega arith
+
 pub has_not : (z : ℕ) (ns : List ℕ) → (Among z ns → ⊥) → has ns z ≡ false
 has_not z ns none = let f : has ns z ≡ true → ⊥ = λ h. none (among_from_has z ns h) in grind (arith, nat_tests)
 

@@ -1,14 +1,13 @@
 -- Words at the front of a line.
-use Rattle.std.proofs.Common.{◌≡◌, ℕ, suc, Option, Some, None, ◌+◌, ◌<◌, ◌≤◌, Bool, true, false, not, List, [], ◌∷◌, ◌++◌, length, get_or, take, drop, All, sym, refl, ap, ◌∙◌, subst, ⊎_elim, append_assoc, arith}
-use Rattle.std.proofs.lemmas.List.Elements.{All-head, All-tail}
-use Rattle.std.proofs.lemmas.List.Folds.{length-prefix_len}
+use Rattle.std.proofs.Common.{◌≡◌, ℕ, Option, Some, None, ◌<◌, ◌≤◌, Bool, true, false, not, List, [], ◌∷◌, ◌++◌, length, get_or, take, drop, All, sym, refl, ap, ◌∙◌, subst, ⊎_elim, append_assoc, add-zero, arith}
+use Rattle.std.proofs.lemmas.List.Elements.{All-from_get_or, All-head, All-tail}
 use Rattle.std.proofs.lemmas.Grind.{common_steps}
-use Rattle.std.proofs.lemmas.List.Sums.{passes_at_first, prefix_len-le-length}
-use Rattle.std.proofs.lemmas.List.{append-nil, drop_all, drop_more}
-use Rattle.std.proofs.lemmas.Bool.{cases_Bool, cond-true, cond-false}
+use Rattle.std.proofs.lemmas.List.Sums.{fails_before_first, passes_at_first, prefix_len-le-length}
+use Rattle.std.proofs.lemmas.List.{append-nil, drop_all, get_or-drop, get_or-take, length-drop, length-take-le, nil_from_length, take-append-drop}
+use Rattle.std.proofs.lemmas.Bool.{cases_eq, cond-true, cond-false, false_from_ne_true, true_from_ne_false, not-false, not-true, false≢true}
 use Rattle.std.specs.List.{position, position_or_len}
 use Rattle.std.specs.Option.{unwrap_or}
-use Rattle.script.specs.Words.{blank, cut, some_word, words}
+use Rattle.script.specs.Words.{blank, cut, words}
 
 -- each byte is a blank, or none is
 abbrev pub Alike : Bool → List ℕ → Type 0
@@ -56,55 +55,75 @@ words_blanks (b ∷ w) rest all =
     cond-true (blank b) _ _ (All-head (λ b. blank b ≡ true) b w all)
     ∙ words_blanks w rest (All-tail (λ b. blank b ≡ true) b w all)
 
-one_plus : (n : ℕ) → 1 + n ≡ suc n
-one_plus n = omega arith
+pub alike_front : (t : Bool) (bs : List ℕ) (n : ℕ) → n ≤ length bs →
+    ((k : ℕ) → k < n → blank (get_or bs k 0) ≡ t) → Alike t (take n bs)
+alike_front t bs n within before =
+    All-from_get_or (λ b. blank b ≡ t) (take n bs) 0
+    (λ i inside.
+    let low : i < n = omega (arith, length-take-le n bs within) in
+    ap blank (get_or-take n bs i 0 low) ∙ before i low)
 
-after_blanks : (bs : List ℕ) → words bs ≡ words (drop (blanks bs) bs)
-unfolding cut words
-after_blanks [] = refl
-after_blanks (b ∷ bs) =
+pub after_blanks : (bs : List ℕ) (n : ℕ) → n ≤ length bs →
+    ((k : ℕ) → k < n → blank (get_or bs k 0) ≡ true) → words bs ≡ words (drop n bs)
+after_blanks bs n within before =
+    ap words (sym (take-append-drop n bs)) ∙ words_blanks (take n bs) (drop n bs) (alike_front true bs n within before)
+
+pub no_words : (bs : List ℕ) → length bs ≡ 0 → words bs ≡ []
+no_words bs empty = ap words (nil_from_length bs empty) ∙ words_none
+
+ended_at : (rest : List ℕ) → (0 < length rest → blank (get_or rest 0 0) ≡ true) → Ended rest
+ended_at [] end = tt
+ended_at (b ∷ rest) end = end (omega arith)
+
+-- a text that does not begin with a blank, and as many bytes of it as are none
+pub first_word : (bs : List ℕ) (n : ℕ) → n ≤ length bs → 0 < length bs → (blank (get_or bs 0 0) ≡ true → ⊥) →
+    ((k : ℕ) → k < n → blank (get_or bs k 0) ≡ false) →
+    (n < length bs → blank (get_or bs n 0) ≡ false → ⊥) →
+    words bs ≡ take n bs ∷ words (drop n bs)
+first_word bs n within some word before over =
+    let size = length-take-le n bs within in
+    let not_none : 0 < n =
     ⊎_elim
-    (λ (e : blank b ≡ true). rw (e, one_plus (blanks bs)) (after_blanks bs))
-    (λ (e : blank b ≡ false). rw e (rw e refl))
-    (cases_Bool (blank b))
+    (λ z. absurd (over (omega arith) (false_from_ne_true _ (λ t. word (ap (λ k. blank (get_or bs k 0)) (sym z) ∙ t)))))
+    (λ nz. omega arith)
+    (cases_eq n 0) in
+    ap words (sym (take-append-drop n bs))
+    ∙ words_front (take n bs) (drop n bs) (omega (arith, size))
+    (alike_front false bs n within before)
+    (ended_at (drop n bs)
+    (λ more.
+    ap blank (get_or-drop n bs 0 0 ∙ ap (λ k. get_or bs k 0) (add-zero n))
+    ∙ true_from_ne_false _ (over (omega (arith, more, length-drop n bs)))))
 
-cut_front : (w bs : List ℕ) → cut w bs ≡ some_word (w ++ take (solids bs) bs) ++ cut [] (drop (solids bs) bs)
-unfolding cut
-cut_front w [] = sym (append-nil _ ∙ ap some_word (append-nil w))
-cut_front w (b ∷ bs) =
-    ⊎_elim
-    (λ (e : blank b ≡ true). rw e (rw e (ap (λ v. some_word v ++ cut [] bs) (sym (append-nil w)))))
-    (λ (e : blank b ≡ false).
-    rw (e, one_plus (solids bs))
-    (cut_front (w ++ b ∷ []) bs
-    ∙ ap (λ v. some_word v ++ cut [] (drop (solids bs) bs)) (append_assoc w (b ∷ []) (take (solids bs) bs))))
-    (cases_Bool (blank b))
+pub begins_word : (bs text : List ℕ) (n : ℕ) → text ≡ drop n bs → 0 < length text →
+    (n < length bs → blank (get_or bs n 0) ≡ true → ⊥) → blank (get_or text 0 0) ≡ true → ⊥
+begins_word bs text n is some over first =
+    let same : get_or text 0 0 ≡ get_or bs n 0 =
+    ap (λ t. get_or t 0 0) is ∙ get_or-drop n bs 0 0 ∙ ap (λ k. get_or bs k 0) (add-zero n) in
+    over (omega (arith, ap length is, length-drop n bs)) (ap blank (sym same) ∙ first)
 
-one_word : (w : List ℕ) → 0 < length w → some_word w ≡ w ∷ []
-one_word [] some = absurd (omega arith)
-one_word (b ∷ w) some = refl
+-- the same at the places that a search finds: all blanks at the front, and the bytes up to the next blank
+after_all_blanks : (bs : List ℕ) → words bs ≡ words (drop (blanks bs) bs)
+after_all_blanks bs =
+    after_blanks bs (blanks bs) (prefix_len-le-length (λ b. not (not (blank b))) bs)
+    (λ k low. not-false _ (fails_before_first (λ b. not (blank b)) bs k 0 low))
 
 -- a text of which each byte is a blank has no words
 no_word_in : (bs : List ℕ) → length bs ≤ blanks bs → words bs ≡ []
-no_word_in bs all = after_blanks bs ∙ ap words (drop_all (blanks bs) bs all) ∙ words_none
-
-solids_some : (b : ℕ) (bs : List ℕ) → not (blank b) ≡ true → 0 < solids (b ∷ bs)
-solids_some b bs e = rw e (omega arith)
+no_word_in bs all = after_all_blanks bs ∙ ap words (drop_all (blanks bs) bs all) ∙ words_none
 
 -- a text with a byte that is no blank begins with a word, from there to the next blank
-first_word : (bs rest : List ℕ) → blanks bs < length bs → rest ≡ drop (blanks bs) bs →
+word_after_blanks : (bs rest : List ℕ) → blanks bs < length bs → rest ≡ drop (blanks bs) bs →
     words bs ≡ take (solids rest) rest ∷ words (drop (solids rest) rest)
-unfolding words
-first_word bs rest inside is =
-    let next = is ∙ drop_more bs (blanks bs) 0 inside in
-    let some : 0 < solids rest =
-    subst (λ t. 0 < solids t) (sym next)
-    (solids_some (get_or bs (blanks bs) 0) (drop (blanks bs + 1) bs) (passes_at_first (λ b. not (blank b)) bs 0 inside)) in
-    after_blanks bs
+word_after_blanks bs rest inside is =
+    let some : 0 < length rest = omega (arith, ap length is, length-drop (blanks bs) bs) in
+    after_all_blanks bs
     ∙ ap words (sym is)
-    ∙ cut_front [] rest
-    ∙ ap (λ ws. ws ++ words (drop (solids rest) rest))
-    (one_word (take (solids rest) rest) (omega (arith, some, length-prefix_len (λ b. not (blank b)) rest)))
+    ∙ first_word rest (solids rest) (prefix_len-le-length (λ b. not (blank b)) rest) some
+    (begins_word bs rest (blanks bs) is some
+    (λ more e. false≢true (sym (not-true _ (passes_at_first (λ b. not (blank b)) bs 0 more)) ∙ e)))
+    (λ k low. fails_before_first blank rest k 0 low)
+    (λ more e. false≢true (sym e ∙ passes_at_first blank rest 0 more))
 
 -- what a search by a test tells of the first place where it passes
 missed : (p : ℕ → Bool) (bs : List ℕ) → None ≡ position p bs → length bs ≤ position_or_len p bs
@@ -127,4 +146,4 @@ word_between bs rest i n r begins is ends at =
     let start = found (λ b. not (blank b)) bs i begins in
     let end : solids rest ≡ n = or_length blank rest r ends ∙ sym at in
     subst (λ k. words bs ≡ take k rest ∷ words (drop k rest)) end
-    (first_word bs rest (omega (arith, start.0, start.1)) (is ∙ ap (λ k. drop k bs) (sym start.0)))
+    (word_after_blanks bs rest (omega (arith, start.0, start.1)) (is ∙ ap (λ k. drop k bs) (sym start.0)))

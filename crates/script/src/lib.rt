@@ -65,10 +65,12 @@ fn split_number(text: &[u8]) -> Option<(u64, &[u8])>
 }
 
 // The number that is all of a text.
+// Kept: beside `one_word`, since the number is read before what follows it is looked for: a word that is none ends it.
 fn one_number(text: &[u8]) -> Option<u64>
     ensures { Reads Fits single (words text.now) result }
 {
-    number(one_word(text)?)
+    let (n, rest) = split_number(text)?;
+    split_word(rest).is_none().then_some(n)
 }
 
 // The two numbers that are all of a text.

@@ -62,20 +62,25 @@ unfolding Unanswered
 climbing_end p there here i sent so_far ended =
     so_far.none (subst (λ (ms : List ℕ). Unanswered p there here ms) (sym (drop_all i rungs ended)) tt)
 
--- a rung is always read, at sites that keep sixty-four values
-rung_unread : (m n k : ℕ) (e : Refusal) → 1 ≤ m → m ≤ 64 → n ≡ m → k ≡ 64 → Unread n (m - 1) k e → ⊥
+-- a letter is always read with an allowance up to its values, at sites that keep sixty-four values
+unread_up_to : (m n k d : ℕ) (e : Refusal) → m ≤ 64 → d ≤ m → n ≡ m → k ≡ 64 → Unread n d k e → ⊥
 unfolding Unread
-rung_unread m n k e some few is size (inl (told, short)) = omega arith
-rung_unread m n k e some few is size (inr (told, (kept, over))) = omega arith
+unread_up_to m n k d e few allowed is size (inl (told, short)) = omega arith
+unread_up_to m n k d e few allowed is size (inr (told, (kept, over))) = omega arith
 
-pub always_read : {A : Type 0} (P : A → Type 0) (m n k : ℕ) (r : Result A Refusal)
-    → (1 ≤ m) × (m ≤ 64)
+-- a rung is always read
+pub rung_unread : (m n k : ℕ) (e : Refusal) → 1 ≤ m → m ≤ 64 → n ≡ m → k ≡ 64 → Unread n (m - 1) k e → ⊥
+rung_unread m n k e some few is size = unread_up_to m n k (m - 1) e few (omega arith) is size
+
+pub always_read : {A : Type 0} (P : A → Type 0) (m n k d : ℕ) (r : Result A Refusal)
+    → m ≤ 64
+    → d ≤ m
     → n ≡ m
     → k ≡ 64
-    → MatchResult r P (Unread n (m - 1) k)
+    → MatchResult r P (Unread n d k)
     → is_ok r ≡ true
-always_read P m n k (Ok x) fit is size read = refl
-always_read P m n k (Err e) fit is size unread = absurd (rung_unread m n k e fit.0 fit.1 is size unread)
+always_read P m n k d (Ok x) few allowed is size read = refl
+always_read P m n k d (Err e) few allowed is size unread = absurd (unread_up_to m n k d e few allowed is size unread)
 
 rung_fits : (m : ℕ) → has rungs m ≡ true → (1 ≤ m) × (m ≤ 64)
 unfolding has

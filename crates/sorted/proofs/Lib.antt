@@ -8,4 +8,5 @@ pub mod Faults
 pub mod Places
 pub mod Shifts
 pub mod MergeSteps
+pub mod Splits
 pub mod Statements

@@ -8,7 +8,7 @@ use Rattle.std.proofs.lemmas.Bool.Decides.{nat_tests}
 use Rattle.sorted.specs.Lists.{has, rising, put, without}
 use Rattle.sorted.specs.Edits.{Found, Gap, Hit, Miss, Inserted, Removed}
 use Rattle.sorted.proofs.Members.{has_first, has_later, rising_tail, rising_over}
-use Rattle.sorted.proofs.Insertion.{put_rising, without_rising, put_there, without_absent}
+use Rattle.sorted.proofs.Insertion.{put_rising, without_rising, put_length, put_there, without_length, without_absent}
 use Rattle.std.specs.Ordering.{nat_cmp}
 use Rattle.std.proofs.lemmas.Cmp.{ranked}
 
@@ -83,9 +83,19 @@ pub found_or_gap : (n : ℕ) (xs : List ℕ) (r : Result ℕ ℕ) → rising xs 
 found_or_gap n xs (Ok i) s h = h.found s
 found_or_gap n xs (Err i) s h = h.gap s
 
+pub inserted_new : (n : ℕ) (xs ys : List ℕ) → rising xs ≡ true → has xs n ≡ false → ys ≡ put n xs → Inserted n xs ys true
+inserted_new n xs ys r h e =
+    let c = ap length e ∙ put_length n xs r in
+    record { told = grind (arith, nat_tests); items = e; same = λ t. grind (arith, nat_tests); count = grind (arith, nat_tests) }
+
 pub inserted_there : (n : ℕ) (xs ys : List ℕ) → rising xs ≡ true → has xs n ≡ true → ys ≡ xs → Inserted n xs ys false
 inserted_there n xs ys r h e =
     record { told = grind (arith, nat_tests); items = e ∙ sym (put_there n xs r h); same = λ t. e; count = ap length e }
+
+pub removed_there : (n : ℕ) (xs ys : List ℕ) → has xs n ≡ true → ys ≡ without n xs → Removed n xs ys true
+removed_there n xs ys h e =
+    let c = ap length e ∙ without_length n xs in
+    record { told = sym h; items = e; same = λ t. grind (arith, nat_tests); count = grind (arith, nat_tests) }
 
 pub removed_not : (n : ℕ) (xs ys : List ℕ) → has xs n ≡ false → ys ≡ xs → Removed n xs ys false
 removed_not n xs ys h e =

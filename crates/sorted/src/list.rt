@@ -2,7 +2,7 @@
 ghost use Rattle.std.specs.Prelude.{◌≡◌, true, [], length, IfOk, MatchResult};
 ghost use Rattle.sorted.specs.Edits.{Apart, Found, Gap, Inserts, OnlyIn, Removed};
 ghost use Rattle.sorted.specs.Lists.{has, put_all, rising};
-ghost use Rattle.sorted.specs.Merged.{left_to_merge, merged};
+ghost use Rattle.sorted.specs.Merged.{Split};
 ghost use Rattle.sorted.specs.Sorted.{MadeOf, NotMade, items_of};
 
 use crate::fault::first_fault;
@@ -95,25 +95,28 @@ impl SortedList {
         }
     }
 
-    // The numbers of both lists by rising number, each once and with its side.
-    fn merge<'a>(&'a self, other: &'a SortedList) -> Merge<'a>
-        ensures { left_to_merge result ≡ merged (items_of self.now) (items_of other.now) }
+    // The numbers up to the last of the other list's, and those beyond all of the other list.
+    fn split_beyond(&self, other: &SortedList) -> (&[u64], &[u64])
+        ensures { Split (items_of self.now) (items_of other.now) result.0.now result.1.now }
     {
-        Merge {
-            left: self.as_slice(),
-            right: other.as_slice(),
-        }
+        let numbers = self.as_slice();
+        let Some(last) = other.as_slice().last() else {
+            return (&[], numbers);
+        };
+        numbers.split_at(numbers.partition_point(|n| *n <= *last))
     }
 
     // What of this list is not in the other. Put into the other, less what this list has not, it makes this list.
     pub fn difference(&self, other: &SortedList, heap: Global) -> Result<SortedList, AllocError>
         ensures { IfOk result (λ l. OnlyIn (items_of self.now) (items_of other.now) (items_of l)) }
     {
-        let items = self
-            .merge(other)
+        let (left, beyond) = self.split_beyond(other);
+        let (right, _) = other.split_beyond(self);
+        let mut items: Vec<u64> = Merge { left, right }
             .filter(|(side, _)| *side == Side::Left)
             .map(|(_, n)| n)
             .collect(heap)?;
+        items.extend_from_slice(beyond)?;
         Ok(SortedList { items })
     }
 
@@ -121,7 +124,11 @@ impl SortedList {
     pub fn union(&self, other: &SortedList, heap: Global) -> Result<SortedList, AllocError>
         ensures { IfOk result (λ l. items_of l ≡ put_all (items_of self.now) (items_of other.now)) }
     {
-        let items = self.merge(other).map(|(_, n)| n).collect(heap)?;
+        let (left, left_beyond) = self.split_beyond(other);
+        let (right, right_beyond) = other.split_beyond(self);
+        let mut items: Vec<u64> = Merge { left, right }.map(|(_, n)| n).collect(heap)?;
+        items.extend_from_slice(left_beyond)?;
+        items.extend_from_slice(right_beyond)?;
         Ok(SortedList { items })
     }
 
@@ -129,8 +136,11 @@ impl SortedList {
     pub fn differ(&self, other: &SortedList) -> usize
         ensures { Apart (items_of self.now) (items_of other.now) result }
     {
-        self.merge(other)
+        let (left, left_beyond) = self.split_beyond(other);
+        let (right, right_beyond) = other.split_beyond(self);
+        let apart = Merge { left, right }
             .filter(|(side, _)| *side != Side::Both)
-            .count()
+            .count();
+        apart + left_beyond.len() + right_beyond.len()
     }
 }

@@ -10,7 +10,7 @@ write_numbers-requires c =
 pub write_numbers-requires-2 : goal.write_numbers-requires-2
 write_numbers-requires-2 c =
     let f = c.in-Some.difference in
-    rest_room c.gone-gone.result.now c.come-come.result.now c.args.out.now c.write_numbers.new.out
+    rest_room c.gone-gone.result.now c.come-come.result.now c.args.out.now c.write_numbers.new.out _ (omega arith)
     (room_some f c.gone-gone.result.now c.come-come.result.now c.gone-gone.ensures c.come-come.ensures _ _ c.in-Some.is c.requires)
     c.write_numbers.ensures
 

@@ -57,7 +57,7 @@ returns-in_default g c =
     record { says = says; truly = more_truly there here (lists_of s) i j c.args.way two (lists_of s) says; right = right s }
 
 pub index_mut-requires : goal.index_mut-requires
-index_mut-requires g c = omega (arith, c.in_ok-here.ensures.0, sites_count c.args.self.now)
+index_mut-requires g c = omega (arith, c.in_ok-here.ensures.0, c.in_ok-there.ensures.0, sites_count c.args.self.now)
 
 pub returns : goal.returns
 returns g c =

@@ -10,8 +10,8 @@ pub unwrap-found-requires : goal.unwrap-found-requires
 unwrap-found-requires g c =
     let m = get_or rungs c.loop-m.m-index 0 in
     let sent = rw c.unwrap-letter.ensures at c.letter.ensures in
-    always_read _ m c.unwrap-letter.result.values.len (desk_size c.args.self.now.desk) c.difference_beside.result
-    (rung_small c.loop-m.m-index (omega arith)) (letter_size m c.unwrap-letter.result (site_list c.args.there.now) sent.1)
+    always_read _ m c.unwrap-letter.result.values.len (desk_size c.args.self.now.desk) _ c.difference_beside.result
+    (rung_small c.loop-m.m-index (omega arith)).1 (omega arith) (letter_size m c.unwrap-letter.result (site_list c.args.there.now) sent.1)
     c.args.self.now.size c.difference_beside.ensures
 
 pub returns-in-Some : goal.returns-in-Some
