@@ -3,7 +3,7 @@ use Rattle.std.proofs.Common.{◌≡◌, ℕ, Option, Some, None, ◌<◌, ◌�
 use Rattle.std.proofs.lemmas.List.Elements.{All-from_get_or, All-head, All-tail}
 use Rattle.std.proofs.lemmas.Grind.{common_steps}
 use Rattle.std.proofs.lemmas.List.Sums.{fails_before_first, passes_at_first, prefix_len-le-length}
-use Rattle.std.proofs.lemmas.List.{append-nil, drop_all, get_or-drop, get_or-take, length-drop, length-take-le, nil_from_length, take-append-drop}
+use Rattle.std.proofs.lemmas.List.{append-nil, drop_all, get_or-drop, get_or-take, length-drop, length-take-le, nil_from_length, take-append-drop, take_all}
 use Rattle.std.proofs.lemmas.Bool.{cases_eq, cond-true, cond-false, false_from_ne_true, true_from_ne_false, not-false, not-true, false≢true}
 use Rattle.std.specs.List.{position, position_or_len}
 use Rattle.std.specs.Option.{unwrap_or}
@@ -147,3 +147,11 @@ word_between bs rest i n r begins is ends at =
     let end : solids rest ≡ n = or_length blank rest r ends ∙ sym at in
     subst (λ k. words bs ≡ take k rest ∷ words (drop k rest)) end
     (word_after_blanks bs rest (omega (arith, start.0, start.1)) (is ∙ ap (λ k. drop k bs) (sym start.0)))
+
+-- where the first word ends with the text
+pub last_word : (bs rest : List ℕ) (i : ℕ) → Some i ≡ position (λ b. not (blank b)) bs → rest ≡ drop i bs → None ≡ position blank rest →
+    words bs ≡ rest ∷ words []
+last_word bs rest i begins is none =
+    word_between bs rest i (length rest) None begins is none refl
+    ∙ ap (λ w. w ∷ words (drop (length rest) rest)) (take_all (length rest) rest (omega arith))
+    ∙ ap (λ t. rest ∷ words t) (drop_all (length rest) rest (omega arith))

@@ -14,9 +14,8 @@ pub fn split_word(text: &[u8]) -> Option<(&[u8], &[u8])>
 {
     let start = text.iter().position(|byte| !is_blank(*byte))?;
     let text = &text[start..];
-    let end = text
-        .iter()
-        .position(|byte| is_blank(*byte))
-        .unwrap_or(text.len());
-    Some(text.split_at(end))
+    match text.iter().position(|byte| is_blank(*byte)) {
+        Some(end) => Some(text.split_at(end)),
+        None => Some((text, &[])),
+    }
 }

@@ -9,4 +9,5 @@ pub mod Places
 pub mod Shifts
 pub mod MergeSteps
 pub mod Splits
+pub mod Turns
 pub mod Statements

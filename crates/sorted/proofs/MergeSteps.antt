@@ -14,18 +14,18 @@ use Rattle.sorted.proofs.Insertion.{put_first}
 use Rattle.sorted.proofs.Difference.{only_cong, only_nil}
 use Rattle.sorted.proofs.Union.{put_all_has, put_all_rising, put_all_nil, put_all_length_le, union_comm}
 
-only_less : (x y : ℕ) (xs ys : List ℕ) → rising (y ∷ ys) ≡ true → x < y → only (x ∷ xs) (y ∷ ys) ≡ x ∷ only xs (y ∷ ys)
+pub only_less : (x y : ℕ) (xs ys : List ℕ) → rising (y ∷ ys) ≡ true → x < y → only (x ∷ xs) (y ∷ ys) ≡ x ∷ only xs (y ∷ ys)
 unfolding only
 only_less x y xs ys s l = let h = has_under x y ys s l in grind (arith, nat_tests)
 
-only_equal : (x y : ℕ) (xs ys : List ℕ) → rising (x ∷ xs) ≡ true → x ≡ y → only (x ∷ xs) (y ∷ ys) ≡ only xs ys
+pub only_equal : (x y : ℕ) (xs ys : List ℕ) → rising (x ∷ xs) ≡ true → x ≡ y → only (x ∷ xs) (y ∷ ys) ≡ only xs ys
 unfolding only has
 only_equal x y xs ys r e =
     let h = has_first y ys in
     let c = only_cong xs (y ∷ ys) ys (λ n p. let o = rising_over x xs r n p in grind (arith, nat_tests)) in
     grind (arith, nat_tests)
 
-only_greater : (x y : ℕ) (xs ys : List ℕ) → rising (x ∷ xs) ≡ true → y < x → only (x ∷ xs) (y ∷ ys) ≡ only (x ∷ xs) ys
+pub only_greater : (x y : ℕ) (xs ys : List ℕ) → rising (x ∷ xs) ≡ true → y < x → only (x ∷ xs) (y ∷ ys) ≡ only (x ∷ xs) ys
 unfolding has
 only_greater x y xs ys r l =
     only_cong (x ∷ xs) (y ∷ ys) ys (λ n p. let o = has_under y x xs r l in grind (arith, nat_tests))

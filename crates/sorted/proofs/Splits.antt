@@ -1,8 +1,7 @@
 -- Two rising lists, each split behind the last of the other: what lies beyond is put behind the merge of the rest.
-use Rattle.std.proofs.Common.{◌≡◌, ℕ, zero, suc, ◌+◌, ◌-◌, ◌<◌, ◌≤◌, true, List, [], ◌∷◌, ◌++◌, length, get_or, drop, sym, refl, ap, ◌∙◌, arith}
+use Rattle.std.proofs.Common.{◌≡◌, ℕ, zero, suc, ◌-◌, ◌<◌, ◌≤◌, true, List, [], ◌∷◌, ◌++◌, length, get_or, drop, sym, refl, ap, ◌∙◌, arith}
 use Rattle.std.proofs.lemmas.Bool.Decides.{nat_tests}
-use Rattle.std.proofs.lemmas.List.{length-append}
-use Rattle.sorted.specs.Lists.{or, has, rising, only, differ, put_all}
+use Rattle.sorted.specs.Lists.{or, has, rising, only, put_all}
 use Rattle.sorted.specs.Merged.{Split}
 use Rattle.sorted.proofs.Members.{has_first, has_later, has_append, rising_tail, rising_over, rising_cons, equal_by_members}
 use Rattle.sorted.proofs.Difference.{only_has, only_from, only_rising}
@@ -41,9 +40,6 @@ front_before (x ∷ xs) ys r m n h k =
 
 pub near_rising : (xs ys near beyond : List ℕ) → rising xs ≡ true → Split xs ys near beyond → rising near ≡ true
 near_rising xs ys near beyond r p = front_rising near beyond (ap rising p.whole ∙ r)
-
-pub split_length : (xs ys near beyond : List ℕ) → Split xs ys near beyond → length near + length beyond ≡ length xs
-split_length xs ys near beyond p = let e = length-append near beyond in let f = ap length p.whole in omega (arith, e, f)
 
 -- what stands from a place on is above a number that is below each of these places
 pub has_beyond : (l : ℕ) (xs : List ℕ) (i : ℕ) → ((k : ℕ) → i ≤ k → k < length xs → l < get_or xs k 0) → (n : ℕ) → has (drop i xs) n ≡ true → l < n
@@ -123,23 +119,3 @@ module _ (xs ys near beyond there past : List ℕ) (r : rising xs ≡ true) (s :
       let e = has_xs n in
       let f = has_ys n in
       grind (arith, nat_tests))
-
-pub differ_split :
-    (xs ys near beyond there past : List ℕ) → rising xs ≡ true → rising ys ≡ true → Split xs ys near beyond → Split ys xs there past →
-    differ xs ys ≡ (differ near there + length beyond) + length past
-unfolding differ
-differ_split xs ys near beyond there past r s p q =
-    let a = ap length (only_split xs ys near beyond there past r s p q) in
-    let b = ap length (only_split ys xs there past near beyond s r q p) in
-    let c = length-append (only near there) beyond in
-    let d = length-append (only there near) past in
-    omega arith
-
-only_length_le : (xs ys : List ℕ) → length (only xs ys) ≤ length xs
-unfolding only
-only_length_le [] ys = omega arith
-only_length_le (x ∷ xs) ys = let h = only_length_le xs ys in grind (arith, nat_tests)
-
-pub differ_le : (xs ys : List ℕ) → differ xs ys ≤ length xs + length ys
-unfolding differ
-differ_le xs ys = let a = only_length_le xs ys in let b = only_length_le ys xs in omega (arith, a, b)

@@ -4,6 +4,7 @@
 ghost use Rattle.std.specs.Prelude.{◌≡◌, true};
 ghost use Rattle.sorted.specs.Lists.{rising};
 
+mod apart;
 mod fault;
 pub mod laws;
 mod list;

@@ -5,6 +5,7 @@ ghost use Rattle.sorted.specs.Lists.{has, put_all, rising};
 ghost use Rattle.sorted.specs.Merged.{Split};
 ghost use Rattle.sorted.specs.Sorted.{MadeOf, NotMade, items_of};
 
+use crate::apart::count_differences;
 use crate::fault::first_fault;
 use crate::merge::{Merge, Side};
 use crate::{FromSliceError, SortedList, slices};
@@ -136,11 +137,6 @@ impl SortedList {
     pub fn differ(&self, other: &SortedList) -> usize
         ensures { Apart (items_of self.now) (items_of other.now) result }
     {
-        let (left, left_beyond) = self.split_beyond(other);
-        let (right, right_beyond) = other.split_beyond(self);
-        let apart = Merge { left, right }
-            .filter(|(side, _)| *side != Side::Both)
-            .count();
-        apart + left_beyond.len() + right_beyond.len()
+        count_differences(self.as_slice(), other.as_slice())
     }
 }
